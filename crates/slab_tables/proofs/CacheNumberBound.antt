@@ -1,4 +1,4 @@
--- `AreBelow` has a bound for each tenant: a number greater than the numbers of all its caches. Changes of caches keep `AreBelow`.
+-- `AreBelow` says that each tenant's bound is greater than the numbers of all its caches. It stays true when caches change.
 use Rattle.std.proofs.Common.{◌≡◌, ℕ, ◌*◌, ◌/◌, ◌%◌, ◌<◌, ◌≤◌, List, Option, Some, None, length, get_or, set, replicate, sym, ap, ◌∙◌, inl, inr, arith}
 use Rattle.std.proofs.lemmas.Bool.{cases_eq}
 use Rattle.std.proofs.lemmas.List.{length-set, length-replicate, get_or-set_same, get_or-set_other}
@@ -25,8 +25,8 @@ pub below_standing : (cs : List (Option Cache)) (bs : List ℕ) (i : ℕ) (c : C
     → (o : Option Cache) → get_or bs (i / MOST_CACHES) 0 ≤ i % MOST_CACHES → o ≡ None
 below_standing cs bs i c is a o le = absurd (let f : ◌≡◌ {A = Option Cache} None (Some c) = sym (a.none i le) ∙ is in cc)
 
--- Let b be at most `MOST_CACHES`. If tenant t has no cache with number b or above, `AreBelow` holds after its bound is replaced
--- by b.
+-- Let b be at most `MOST_CACHES`. If tenant t has no cache with number b or above, `AreBelow` holds after the bound of t is
+-- replaced by b.
 pub below_number : (cs : List (Option Cache)) (bs : List ℕ) (t b : ℕ) → t < length bs → b ≤ MOST_CACHES
     → ((c : ℕ) → b ≤ c → c < MOST_CACHES → cache_in cs (index_of_cache t c) ≡ None) → AreBelow cs bs → AreBelow cs (set bs t b)
 below_number cs bs t b lt few none a = record {

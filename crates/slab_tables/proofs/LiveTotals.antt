@@ -10,7 +10,7 @@ use Rattle.slab_tables.specs.Content.{blank, kept_at, is_of_index, live_total}
 abbrev pub part : ℕ → Option (ℕ × ℕ) → Kept → ℕ
 part n p k = cond (is_of_index n p) k.live 0
 
--- if the place and the state at machine frame i are replaced, the total and the part of frame i change by the same amount
+-- if the place and the state at machine frame i are replaced, the total and this machine frame's part change by the same amount
 pub total_set : (n i : ℕ) (p : Option (ℕ × ℕ)) (k : Kept) (ps : List (Option (ℕ × ℕ))) (ks : List Kept) → i < length ps → i < length ks
     → live_total n (set ps i p) (set ks i k) + part n (place_at ps i) (kept_at ks i) ≡ live_total n ps ks + part n p k
 total_set n i p k [] ks lt there = absurd (omega arith)
@@ -18,7 +18,7 @@ total_set n i p k (q ∷ ps) [] lt there = absurd (omega arith)
 total_set n zero p k (q ∷ ps) (l ∷ ks) lt there = omega arith
 total_set n (suc i) p k (q ∷ ps) (l ∷ ks) lt there = let h = total_set n i p k ps ks (omega arith) (omega arith) in omega (arith, h)
 
--- if only the place at machine frame i is replaced, the total and the part of frame i change by the same amount
+-- if only the place at machine frame i is replaced, the total and this machine frame's part change by the same amount
 pub total_placed : (n i : ℕ) (p : Option (ℕ × ℕ)) (ps : List (Option (ℕ × ℕ))) (ks : List Kept) → i < length ps → i < length ks
     → live_total n (set ps i p) ks + part n (place_at ps i) (kept_at ks i) ≡ live_total n ps ks + part n p (kept_at ks i)
 total_placed n i p ps ks lt there =

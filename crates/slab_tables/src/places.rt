@@ -214,8 +214,8 @@ impl SlabLists {
 
     /// Moves the slab from its list to the list `head` under the same key.
     ///
-    /// If list `head` is loose, the slab is appended. If it is short, it is walked, unless the slab belongs at one of its ends.
-    /// In a longer list the function first searches for a nearby slab, from which a walk is short.
+    /// If list `head` is loose, the slab is appended. If the list is short, it is walked, unless the slab belongs at one of its
+    /// ends. In a longer list the function first searches for a nearby slab, from which a walk is short.
     #[inline(never)]
     fn move_to(&mut self, head: u32, machine_frame: u32, key: u32, slab: u8)
         requires head { head < self.old.heads }

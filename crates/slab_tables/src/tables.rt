@@ -72,7 +72,7 @@ impl Tables {
         })
     }
 
-    /// A law: the invariants of all tables and of their lists. This function itself does nothing.
+    /// A law: the tables and their lists satisfy their invariants. This function itself does nothing.
     pub fn laws(&self)
         ensures slabs { IsSlabs self.now }
         ensures table { ArePlaces self.now.lists }
@@ -124,7 +124,7 @@ impl Tables {
         self.kept[machine_frame as usize]
     }
 
-    /// Returns the number of the list and the first frame of the slab that begins at the machine frame, or `None` if none begins
+    /// Returns the list number and the first frame of the slab that begins at the machine frame, or `None` if no slab begins
     /// there.
     pub fn place_of(&self, machine_frame: u32) -> Option<(u32, u32)>
         requires { machine_frame < length self.now.lists.places }
