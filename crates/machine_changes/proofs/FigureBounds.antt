@@ -82,8 +82,8 @@ module _ (top superblocks : ℕ) (h : buddies.Holding) (long : length h.slots �
       ap (buddies.is_held h) (same_slot top k x f placed.0.0 (number_of_frame f k x placed.0.1 (low, high))) ∙ placed.1) in
       omega (arith, run, mul-one (2 ^ k))
 
-  -- if all taken blocks that begin below n end at or below e, together they have at most as many frames as lie in held slots
-  -- below e
+  -- if all taken blocks that begin below n end at or below e, together they have at most as many frames as there are
+  -- frames below e in held slots
   sizes_within : (n e : ℕ) → n ≤ length h.taken → ((f k : ℕ) → f < n → get_or h.taken f None ≡ Some k → f + 2 ^ k ≤ e)
       → sum_by size (take n h.taken) ≤ count_below inside e
   sizes_within zero e le ends = omega arith
@@ -113,7 +113,7 @@ module _ (top superblocks : ℕ) (h : buddies.Holding) (long : length h.slots �
           let rise : count_below inside (j + 2 ^ k) ≤ count_below inside e = count_rise inside (j + 2 ^ k) e (ends j k (omega arith) is) in
           omega (arith, more)
 
-  -- a taken block ends within the frames of all superblocks
+  -- a taken block ends at or below `superblocks * 2 ^ top`, the number of machine frames
   ends_within : (f k : ℕ) → get_or h.taken f None ≡ Some k → f + 2 ^ k ≤ superblocks * 2 ^ top
   ends_within f k e =
       let placed = sound.placed f k e in

@@ -10,7 +10,7 @@ use Rattle.model_core.proofs.CountBelow.{bit}
 use Rattle.buddy_core.specs.Content.{has_order}
 use Rattle.machine_changes.specs.Figures.{frames_in}
 
--- counting the blocks of order n too adds `count n * 2 ^ n` frames
+-- if the blocks of order n are also counted, `count n * 2 ^ n` frames are added
 pub frames_more : (count : ℕ → ℕ) (n : ℕ) → frames_in count (n + 1) ≡ frames_in count n + count n * 2 ^ n
 frames_more count n = ap (frames_in count) (add-one n)
 

@@ -10,7 +10,7 @@ use Rattle.slab_tables.specs.Content.{head_of}
 use Rattle.machine_changes.specs.Laws.{is_kind, KindsHold}
 use Rattle.machine_changes.proofs.SlabsByKind.{to_list, from_list}
 
--- the given fact that x is in xs, with x and xs named
+-- a given fact that x is in xs, restated with x and xs written out
 pub in_among : {X : Type 0} (x : X) (xs : List X) → IsIn x xs → IsIn x xs
 in_among x xs i = i
 

@@ -1,4 +1,4 @@
--- No slab begins on a superblock without an owner. If `HoldTogether` holds, so does the premise of the laws, for each tenant.
+-- No slab begins on a superblock without an owner. If `HoldTogether` holds, `IsSteady` holds for each tenant.
 use Rattle.std.proofs.Common.{◌≡◌, ℕ, ◌+◌, ◌*◌, ◌/◌, ◌%◌, ◌^◌, ◌<◌, Some, None, length, refl, sym, ap, ◌∙◌, arith}
 use Rattle.std.specs.Prelude.{Option}
 use Rattle.std.proofs.lemmas.Nat.{div-mul-add}

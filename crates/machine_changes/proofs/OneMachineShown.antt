@@ -31,7 +31,7 @@ same_found {X} key xs ys rises rises' same =
     carried : (ws zs : List X) → RisesFrom 0 (map key ws) → ((k : ℕ) → at key k ws ≡ at key k zs) → (x : X) → IsIn x ws → IsIn x zs
     carried ws zs r e x i = (find_in (λ y. eqb (key y) (key x)) x zs (sym (e (key x)) ∙ in_found key 0 x ws r i)).0
 
--- a lookup of the first frame f returns the block at f with the order that `order_in` returns, or None if there is none
+-- a lookup of the first frame f returns the block at f with the order that `order_in` returns, or None if no block begins at f
 block_found : (bs : List Block) (f : ℕ) → at (λ z. z.first) f bs ≡ option_map (block f) (order_in bs f)
 block_found bs f = go (at (λ z. z.first) f bs) refl ∙ ap (option_map (block f)) (sym (order_found bs f))
   where

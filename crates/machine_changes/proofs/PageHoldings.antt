@@ -17,8 +17,8 @@ use Rattle.machine_changes.proofs.Lookups.{some_none}
 other_holding : (t u : ℕ) (h : buddies.Holding) (c : buddies.Content) → u ≢ t → buddies.holding_of u (buddies.with_holding t h c) ≡ buddies.holding_of u c
 other_holding t u h c other = get_or-set_other c.tenants t u h buddies.no_tenant other
 
--- Let the holding of tenant t be replaced by `change` of this holding. If `change` keeps `no_tenant`, t then has the changed
--- holding.
+-- Let the holding of tenant t be replaced by `change` of this holding. If `change` leaves `no_tenant` unchanged, t then has the
+-- changed holding, even if there is no tenant t.
 pub own_changed : (t : ℕ) (change : buddies.Holding → buddies.Holding) (c : buddies.Content) → change buddies.no_tenant ≡ buddies.no_tenant
     → buddies.holding_of t (buddies.with_holding t (change (buddies.holding_of t c)) c) ≡ change (buddies.holding_of t c)
 own_changed t change c nothing =

@@ -16,6 +16,6 @@ order_less f bs g =
     ∙ through (option_map (λ x. x.order)) (g == f) None (at (λ x. x.first) g bs)
     ∙ ap (cond (g == f) None) (sym (order_found bs g))
 
--- in a list whose first frames rise, a lookup of the first frame of block z returns the order of z
+-- in a list of blocks whose first frames rise, a lookup of the first frame of block z returns the order of z
 pub order_told : (z : Block) (bs : List Block) → RisesFrom 0 (map (λ b. b.first) bs) → IsIn z bs → order_in bs z.first ≡ Some z.order
 order_told z bs rises i = order_found bs z.first ∙ ap (option_map (λ b. b.order)) (in_found (λ b. b.first) 0 z bs rises i)

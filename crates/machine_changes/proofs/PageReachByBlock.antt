@@ -45,7 +45,7 @@ module _ (r : spaces.Content) (b : buddies.Content) (s : Content) (t place len :
       (and_from (nat_le (4096 * p.first) place) (nat_le (place + len) (4096 * p.first + 4096 * 2 ^ p.order))
       (le-leb (4096 * p.first) place begins) (le-leb (place + len) (4096 * p.first + 4096 * 2 ^ p.order) (omega arith)))
 
--- the frame of each place of the range is a frame of the block
+-- if a range lies inside a block, the frame of each place of the range is a frame of the block
 pub frame_in : (first z place len p : ℕ) → 4096 * first ≤ place → place + len ≤ 4096 * (first + z) → place ≤ p → p < place + len
     → (first ≤ p / 4096) × (p / 4096 < first + z)
 frame_in first z place len p begins ends low high = (omega arith, omega arith)

@@ -146,7 +146,7 @@ module _ (r : spaces.Content) (b : buddies.Content) (s : Content) (t place : ℕ
 
   -- The agreement of the parts after the write
 
-  -- the control record of an agreed slab of any tenant is unchanged
+  -- if the parts agree on a slab of small objects, of any tenant, the control record of the slab is unchanged
   agreed_stays : (machine_frame head key : ℕ) (cache : own.Cache) → place_at s.lists.places machine_frame ≡ Some (head, key) → cache_in s.caches (head / 3) ≡ Some cache
       → IsAgreed r b s machine_frame head key cache → (u : ℕ) → head / 3 / MOST_CACHES ≡ u
       → is_small (layout_numbers cache).chunk ≡ true → (j : ℕ) → j < 32 → record_byte r' u key j ≡ record_byte r u key j

@@ -27,7 +27,7 @@ pub none_mapped : (o : Option Cache) → option_map without_slabs o ≡ None →
 none_mapped None e = refl
 none_mapped (Some x) e = absurd (some_none e)
 
--- tests that agree on n numbers from k on give the same flags
+-- tests that agree on the n numbers from k on give the same flags
 pub same_below : (k n : ℕ) (p q : ℕ → Bool) → ((i : ℕ) → k ≤ i → i < k + n → p i ≡ q i) → flags_from k n p ≡ flags_from k n q
 same_below k zero p q same = refl
 same_below k (suc n) p q same =
@@ -134,7 +134,7 @@ module _ (r : spaces.Content) (b : buddies.Content) (s : Content) (t : ℕ) (st 
       in_block-from (4096 * f + 4064 + j) (block f (layout_numbers cache).order)
       (subst (λ x. HasFrame (block f (layout_numbers cache).order) x) (sym here) (has_first (block f (layout_numbers cache).order)))
 
--- whether an object is live does not change if its slab's control record is unchanged
+-- an object stays live, or stays free, if the stored state and the control record of its slab are unchanged
 pub one_stays : (r r' : spaces.Content) (t : ℕ) (cache : own.Cache) (kept : Kept) (f i : ℕ)
     → (is_small (layout_numbers cache).chunk ≡ true → (j : ℕ) → j < 32 → record_byte r' t f j ≡ record_byte r t f j) → i < 256
     → is_live r' t cache kept f i ≡ is_live r t cache kept f i
@@ -187,7 +187,7 @@ same_slab r r' s s' t c f cache machine_frame listed stays =
         ∙ placed n at (is_of_cache (index_of_cache t c) f (place_at s.lists.places n)) refl
 
 module _ (r : spaces.Content) (b : buddies.Content) (s : Content) (t : ℕ) (st : IsSteady r b s t) where
-  -- a slab has the same live objects as before if its control record is unchanged
+  -- a slab has the same live objects as before if its stored state and its control record are unchanged
   pub live_stays : (r' : spaces.Content) (kept : Kept) (c f n : ℕ) (cache : own.Cache) → IsSlab r s t c f n cache
       → (is_small (layout_numbers cache).chunk ≡ true → (j : ℕ) → j < 32 → record_byte r' t f j ≡ record_byte r t f j)
       → live_of r' t cache kept f ≡ live_of r t cache kept f

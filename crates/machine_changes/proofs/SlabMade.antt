@@ -67,7 +67,7 @@ module _ (r r' : spaces.Content) (b b' : buddies.Content) (s s' : Content) (t c 
   differs : (g x : ℕ) → machine_frame_of s.top r.slots t g ≡ Some x → g ≢ f → x ≢ n
   differs g x under other same = other (one_machine_frame r b s t st g f x under (k.under ∙ ap (λ y. Some y) (sym same)))
 
-  -- each cache existed before, with the same layout
+  -- each cache after the change existed before, with the same layout
   pub record WasCached (d : ℕ) (other : own.Cache) : Type 0 where
     pub before : own.Cache
     pub cached : cache_at s t d ≡ Some before

@@ -35,7 +35,7 @@ three_kinds (suc (suc zero)) false true apart less = refl
 three_kinds (suc (suc zero)) false false apart less = refl
 three_kinds (suc (suc (suc kind))) full empty apart less = absurd (omega arith)
 
--- if a slab has objects, its kind is `kind_of` its number of objects and its number of live objects
+-- if a slab has objects, `kind_of` applied to its number of objects and its number of live objects gives its kind
 pub kind_is : (kind : ℕ) (y : Slab) → 0 < length y.live → kind < 3 → is_kind kind y ≡ (kind_of (length y.live) (count_true y.live) == kind)
 kind_is kind y some less =
     ap (λ v. cond (eqb kind 0) v (cond (eqb kind 1) (not v && not (is_empty y)) (is_empty y))) (all_counts y.live)
@@ -90,7 +90,7 @@ module _ (r : spaces.Content) (b : buddies.Content) (s : Content) (w : IsSlabs s
           place = p.place ∙ ap (λ (head : ℕ). Some (head, y.first)) (head_is p.head (index_of_cache t c) kind p.index kind_there);
         }
 
-    -- a slab of kind `kind` of the machine's cache begins at frame `first`
+    -- the machine's cache has a slab of kind `kind` that begins at frame `first`
     pub record IsOfKind (first : ℕ) : Type 0 where
       pub slab : Slab
       pub listed : IsIn slab x.slabs

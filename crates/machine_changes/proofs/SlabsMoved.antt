@@ -16,7 +16,7 @@ use Rattle.machine_changes.specs.Shows.{machine_frame_of, byte_or_zero, live_of,
 use Rattle.machine_changes.proofs.Lookups.{some_none, some_same}
 use Rattle.machine_changes.proofs.SlabFacts.{same_below}
 
--- a slab has the same live objects as before if its control record is unchanged
+-- a slab has the same live objects as before if its stored state and its control record are unchanged
 live_same : (r r' : spaces.Content) (t : ℕ) (cache : own.Cache) (kept : Kept) (f : ℕ)
     → ((j : ℕ) → record_byte r' t f j ≡ record_byte r t f j) → live_of r' t cache kept f ≡ live_of r t cache kept f
 live_same r r' t cache kept f same =

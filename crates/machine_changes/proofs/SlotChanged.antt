@@ -20,7 +20,7 @@ use Rattle.machine_changes.proofs.Lookups.{through}
 use Rattle.machine_changes.proofs.SlabFacts.{has_it, same_slab, live_stays, no_slab_under, slot_inside}
 use Rattle.machine_changes.proofs.SlotPartsAgree.{agreed_still}
 
--- dividing a place by the size of a superblock in bytes gives its slot
+-- dividing a place by the size of a superblock in bytes gives the slot of the place
 pub slot_by_unit : (unit top place : ℕ) → unit ≡ 4096 * 2 ^ top → place / unit ≡ slot_of top place
 slot_by_unit unit top place e = ap (λ n. place / n) e ∙ sym (div-div-eq-div-mul place 4096 (2 ^ top))
 
@@ -30,8 +30,8 @@ record_slot top f j less =
     let here : (4096 * f + 4064 + j) / 4096 ≡ f = ap (λ x. x / 4096) (omega arith) ∙ div-mul-add f 4096 (4064 + j) (omega arith) in
     ap (λ x. x / 2 ^ top) here
 
--- Slot u of tenant t now has the superblock `under`, or none if that is None. Each place of the slot now has the byte `byte`, or
--- none if that is None. All else that the tenant has is unchanged. No slab lies in the slot, before or after.
+-- Slot u of tenant t now has the superblock `under`, or none if `under` is None. Each place of the slot now has the byte `byte`,
+-- or none if `byte` is None. All else that the tenant has is unchanged. No slab lies in the slot, before or after.
 pub record IsReslotted (r r' : spaces.Content) (b b' : buddies.Content) (s : Content) (t u : ℕ) (under byte : Option ℕ) : Type 0 where
   pub slots : (v : ℕ) → spaces.superblock_at r'.slots t v ≡ cond (eqb v u) under (spaces.superblock_at r.slots t v)
   pub bytes : (place : ℕ) → byte_at r' t place ≡ cond (eqb (slot_of s.top place) u) byte (byte_at r t place)

@@ -1,4 +1,4 @@
--- After one slot of a tenant changes in the buddy system, the buddy system and the memory still agree on all its other slots.
+-- After one slot of tenant t changes in the buddy system, the buddy system and the memory still agree on the other slots of t.
 use Rattle.std.proofs.Common.{◌≡◌, ℕ, ◌<◌, cond, eqb, length, Some, None, get_or-set_same, get_or-set_other, sym, ap, ◌∙◌, ⊎_elim, arith}
 use Rattle.std.specs.Prelude.{Option, List, slice_index_or, slice_set}
 use Rattle.std.proofs.lemmas.Bool.{eq-eqb, ne_eqb, cases_eq}
@@ -18,7 +18,7 @@ replaced xs u x v below = ⊎_elim
     (cases_eq v u)
 
 -- after entry u of the tenant's slots in the buddy system becomes x, every other entry is the superblock that the memory has in
--- that slot
+-- the slot of the entry
 pub slots_with : (r : spaces.Content) (b : buddies.Content) (s : Content) → HoldTogether r b s → (t u v : ℕ) (x : Option ℕ) → t < length r.slots → u < length r.owners
     → slice_index_or (slice_set (buddies.holding_of t b).slots u x) v None ≡ cond (eqb v u) x (spaces.superblock_at r.slots t v)
 slots_with r b s h t u v x tenant slot =

@@ -26,8 +26,8 @@ abbrev pub found : own.Cache → ℕ → ℕ → ℕ → Found
 found cache first machine_frame index = record { cache = cache; first = first; machine_frame = machine_frame; index = index }
 
 -- Object o of cache c of tenant t becomes live if v is true, or free if v is false. Only the slab's control record, its stored
--- state except for the colour, and the list that the slab is in may change. If the objects are large, the control record does not
--- change either.
+-- state except for the colour, and the list that the slab is in may change. If the objects are large, no byte of the memory
+-- changes.
 pub record IsMarked (r r' : spaces.Content) (s s' : Content) (t c : ℕ) (o : Found) (v : Bool) : Type 0 where
   pub top : s'.top ≡ s.top
   pub slots : (u : ℕ) → spaces.superblock_at r'.slots t u ≡ spaces.superblock_at r.slots t u

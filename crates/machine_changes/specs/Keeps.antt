@@ -21,8 +21,8 @@ pub record Keeps (r r' : spaces.Content) (b b' : buddies.Content) (s s' : Conten
   pub buddy : buddies.holding_of t b' ≡ buddies.holding_of t b
   pub slabs : IsSameCaches t r s s'
 
--- A call for tenant t changes nothing that other tenants have. In the memory only bytes change, and no byte of a superblock
--- without an owner. No buddy system changes except the tenant's own.
+-- A call for tenant t changes nothing that other tenants have. In the memory only bytes change, and only in superblocks that
+-- have an owner. No buddy system changes except the tenant's own.
 pub record Spares (t : ℕ) (r r' : spaces.Content) (b b' : buddies.Content) (s s' : Content) : Type 0 where
   pub others : (u : ℕ) → u ≢ t → Keeps r r' b b' s s' u
   pub space : r' ≡ record r { banks = r'.banks }

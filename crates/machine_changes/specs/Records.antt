@@ -5,7 +5,7 @@ use Rattle.std.specs.Int.{bit_at}
 abbrev pub is_set : ℕ → ℕ → Bool
 is_set byte j = bit_at byte j == 1
 
--- the list of the test's results for n numbers from k on
+-- the list of the test's results for the n numbers from k on
 abbrev pub flags_from : ℕ → ℕ → (ℕ → Bool) → List Bool
 flags_from k zero test = []
 flags_from k (suc n) test = test k ∷ flags_from (suc k) n test

@@ -64,7 +64,7 @@ abbrev pub has_slab : Content → Option ℕ → Bool
 has_slab s None = false
 has_slab s (Some n) = is_some (place_at s.lists.places n)
 
--- the private machine's cache with this number and no slabs
+-- cache c of the tables as a cache of the private machine, with this number and without slabs
 abbrev pub bare : ℕ → own.Cache → Cache
 bare number c = record { number = number; size = c.layout.size; align = c.layout.align; pattern = c.pattern; made = c.made; slabs = [] }
 
@@ -77,7 +77,7 @@ pub record IsSlab (r : spaces.Content) (s : Content) (t c f n : ℕ) (cache : ow
   pub under : machine_frame_of s.top r.slots t f ≡ Some n
   pub listed : is_of_cache (index_of_cache t c) f (place_at s.lists.places n) ≡ true
 
--- a slab of the cache at frame f contains the place
+-- if a slab of this cache begins at frame f, the slab contains the place
 abbrev pub is_inside : ℕ → ℕ → own.Cache → Bool
 is_inside place f cache = in_block place (block f (layout_numbers cache).order)
 
