@@ -1,4 +1,4 @@
--- The search of a tree goes down from the root to the free block of an order that has the least first frame.
+-- The search of a tree goes down from the root. Of all free blocks of an order, it finds the one with the least first frame.
 use Rattle.std.proofs.Common.{◌≡◌, ℕ, suc, ◌+◌, ◌-◌, ◌*◌, ◌/◌, ◌%◌, ◌^◌, ◌<◌, ◌≤◌, Bool, true, false, List, length, get_or, ◌⊎◌, inl, inr, refl, sym, ap, subst, ◌∙◌, arith}
 use Rattle.std.specs.Prelude.{slice_index}
 use Rattle.std.specs.Int.{bit_at}
@@ -131,8 +131,8 @@ reached_stored top j d n words size h r =
     let deep = pow_mono {i = suc (suc d)} {j = top + 1} (omega arith) in
     omega (arith, pow-suc 2 d, pow-suc 2 (suc d))
 
--- For the last node n, the code computes (n << j) - (1 << top). Neither shift overflows, and the difference is the first frame of
--- the block of node n, which is below 2 ^ top.
+-- If the search ends at node n, the code computes (n << j) - (1 << top). Neither shift overflows, and the difference is the first
+-- frame of the block of node n, which is below 2 ^ top.
 pub first_of : (top j n : ℕ) → j ≤ top → top ≤ 8 → 2 ^ (top - j) ≤ n → n < 2 * 2 ^ (top - j)
     → (1 * 2 ^ top % 4294967296 ≡ 2 ^ top) × (n * 2 ^ j % 4294967296 ≡ 2 ^ top + (n - 2 ^ (top - j)) * 2 ^ j) × ((n - 2 ^ (top - j)) * 2 ^ j < 2 ^ top)
 first_of top j n h small least depth =
@@ -163,8 +163,8 @@ reached_first top j d words e =
 pub reached_last : (top j level n : ℕ) (words : List ℕ) → level ≡ top → Reached top j (level - j) n words → Reached top j (top - j) n words
 reached_last top j level n words e way = subst (λ i. Reached top j (i - j) n words) e way
 
--- `len / 2 ^ (j + 1)` is the last node of an order above j. If node n at depth d is at most this node, its order is above j. If n
--- is greater and its order is at least j, its order is j (next lemma).
+-- Nodes 1 to `len / 2 ^ (j + 1)` are the nodes of the orders above j. If node n at depth d is one of these, its order is above j.
+-- If n is greater than all of these and its order is at least j, its order is j (next lemma).
 pub inner_above : (top j d n len : ℕ) → len + 1 ≡ 2 ^ (top + 1) → n ≤ len / 2 ^ (j + 1) → 2 ^ d ≤ n → d + j < top
 inner_above top j d n len size test least = elim (cases_lt (d + j) top) [
   | inl lt ↦ lt

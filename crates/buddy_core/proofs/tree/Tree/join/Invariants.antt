@@ -2,8 +2,8 @@ use Rattle.std.proofs.Common.{◌≡◌, ℕ, ◌+◌, ◌-◌, ◌^◌, Bool, s
 use Rattle.buddy_core.specs.Tree.{Shows, IsLess, Mended, IsNode}
 use Rattle.buddy_core.proofs.tree.Tree.join.Given as goal
 
--- Once 2 ^ `level` is written as the word of `node`, the words inside the block of order `level` around frame `first` show one
--- free block.
+-- If 2 ^ `level` is written as the word of `node`, the words inside the block of order `level` around frame `first` show that
+-- this whole block is free.
 abbrev pub invariant-loop-level : goal.invariant-loop-level
 invariant-loop-level l = record {
   size : length l.words + 1 ≡ 2 ^ (l.fn.self.order + 1);

@@ -7,7 +7,8 @@ use Rattle.buddy_core.proofs.TreeNodes.{tree_is}
 use Rattle.buddy_core.proofs.TreeSearch.{Reached, reached_first, reached_low, reached_high, reached_last, inner_above, inner_last, first_of, found_first}
 use Rattle.buddy_core.proofs.tree.Tree.search.Goals as goal
 
--- the loop goes to node 2 * node + 1 - number: this is the lower half of `node` if the bit is true, or else the upper half
+-- `number` is 1 if the bit is true, and 0 otherwise. The loop goes to node 2 * node + 1 - number, which is the lower half of
+-- `node` if the bit is true, and the upper half otherwise.
 next : (node : ℕ) (bit : Bool) (number : ℕ) (P : ℕ → Type 0) → number ≡ from_bool bit → (bit ≡ true → P (2 * node)) → (bit ≡ false → P (2 * node + 1)) → P (2 * node + 1 - number)
 next node true number P e left right = subst P (omega arith) (left refl)
 next node false number P e left right = subst P (omega arith) (right refl)
