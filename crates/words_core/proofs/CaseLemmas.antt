@@ -78,7 +78,7 @@ number_is_not_admin : (word : List ℕ) (t : ℕ) → number_of word ≡ Some t 
 number_is_not_admin word t number admin =
     let both : None ≡ Some t = sym (ap number_of admin) ∙ number in cc
 
--- if the first word is not `admin`, `actor_of` returns the tenant with this number, or a fault if the word is not a number
+-- if the first word is not `admin`, `actor_of` returns the tenant whose number it is, or a fault if it is not a number
 actor_of-other : (word : List ℕ) (number : Option ℕ) → (word ≡ codes "admin" → ⊥) → number_of word ≡ number
     → actor_of word ≡ (or_fault number (nobody_fault word) >>= (λ t. Ok (tenant t)))
 actor_of-other word number other is =

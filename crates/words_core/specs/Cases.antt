@@ -68,7 +68,7 @@ pub data CaseOfWords : ℕ → List (List ℕ) → Result (Option Event) LineFau
 -- The bytes are a line without the carriage return that may end it. The line is in the case with this number and has this
 -- meaning.
 pub data CaseOfBytes : ℕ → List ℕ → Result (Option Event) LineFault → Type 0 where
-  -- 1. the line has more than 255 bytes, even if it is a comment: the fault is `Long`
+  -- 1. the line has more than 255 bytes: the fault is `Long`, even if the line is a comment
   too_long : {bytes : List ℕ} → MOST_LINE_BYTES < length bytes → CaseOfBytes 1 bytes (Err LineFault.Long)
   -- 2 to 8. the line has at most 255 bytes: it is in the case of its words
   of_words : {number : ℕ} {bytes : List ℕ} {reading : Result (Option Event) LineFault} → length bytes ≤ MOST_LINE_BYTES

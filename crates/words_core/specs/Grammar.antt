@@ -74,7 +74,7 @@ reading_of_words (first ∷ rest) =
       event ← event_of first rest
       Ok (Some event))
 
--- the meaning of a line of `size` bytes with these words, which is the fault `Long` if it has more than 255 bytes
+-- the meaning of a line of `size` bytes with these words; if `size` is above 255, the meaning is the fault `Long`
 abbrev pub reading_within : ℕ → List (List ℕ) → Result (Option Event) LineFault
 reading_within size words = if nat_lt MOST_LINE_BYTES size then Err LineFault.Long else reading_of_words words
 

@@ -8,7 +8,7 @@ use Rattle.words_core.specs.declared.numbers.TheConstants.{MOST_DIGITS}
 abbrev pub value_of : List ℕ → ℕ
 value_of digits = fold (λ value digit. value * 10 + (digit - 48)) 0 digits
 
--- the word has 1 to 10 decimal digits, including leading zeros, and a value below 2^32
+-- the word consists of 1 to 10 decimal digits, including leading zeros, and its value is below 2^32
 abbrev pub is_number : List ℕ → Bool
 is_number word =
     nat_lt 0 (length word) && nat_le (length word) MOST_DIGITS && list_all is_ascii_digit word && nat_lt (value_of word) (2 ^ 32)

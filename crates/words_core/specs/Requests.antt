@@ -40,7 +40,7 @@ body_of_answer (Answer.WasReset tenant superblocks) = Body.WasReset tenant super
 body_of_answer (Answer.Moved tenant slot superblock) = Body.Moved tenant slot superblock
 body_of_answer (Answer.Fault fault) = Body.Fault fault
 
--- the body has several lines, so it is not an `Answer`
+-- the body has several lines, so no `Answer` stands for it
 abbrev pub is_table : Body → Bool
 is_table (Body.Owners owners) = true
 is_table (Body.Report report) = true
@@ -109,7 +109,7 @@ AsksPattern (Command.Give cache place) = Unit {0}
 AsksPattern Command.Reap = Unit {0}
 AsksPattern Command.Report = Unit {0}
 
--- if the request is a write, it has at most 64 bytes; if it makes a cache, the pattern has 1 to 16 bytes
+-- if the request is a write, it writes at most 64 bytes; if the request makes a cache, the pattern has 1 to 16 bytes
 abbrev pub IsAskable : Request → Type 0
 IsAskable (Request.Write place bytes) = length bytes.now ≤ MOST_BYTES
 IsAskable (Request.Cache size align pattern) = is_pattern pattern.now ≡ true

@@ -5,8 +5,8 @@ ghost use Rattle.words_core.specs.Words.{is_blank, words_of};
 
 use arrayvec::ArrayVec;
 
-/// The largest number of words that are read from a line. A line with a valid command has at most five words, so words after the
-/// sixth cannot change what a line means.
+/// The largest number of words that are read from a line. A line with a valid command has at most five words. If there is a
+/// sixth, the line is a comment or faulty, and the words after the sixth cannot change what the line means.
 pub const MOST_WORDS: usize = 6;
 
 fn is_blank(byte: u8) -> bool

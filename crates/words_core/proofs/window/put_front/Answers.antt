@@ -3,7 +3,7 @@ use Rattle.std.proofs.lemmas.Fmt.{decimal_digit}
 use Rattle.std.proofs.lemmas.List.{take-append-le}
 use Rattle.words_core.proofs.window.put_front.Goals as goal
 
--- if a digit replaces the first byte of the front, the first `len` bytes are the digit and then the front's bytes from 1 on
+-- if a digit replaces byte 0 of the front, the first `len` bytes are the digit and then bytes 1 to `len` - 1 of the front
 headed : (digit : ℕ) (front behind : List ℕ) (len : ℕ) → 0 < len → len ≤ length front
     → take len (slice_set (front ++ behind) 0 digit) ≡ digit ∷ slice_range front 1 len
 headed digit [] behind len some within = absurd (omega arith)
