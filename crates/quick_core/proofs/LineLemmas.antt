@@ -241,7 +241,8 @@ blank_first : (window : List ℕ) (i next e : ℕ) → next ≡ i + 1 → i < e 
 blank_first window i next e next_is some fits is =
     front window i e 32 some fits is ∙ ap (λ k. 32 ∷ slice_range window k e) (sym next_is)
 
--- if there are spaces at a and b, the text up to e is three words: the bytes up to a, from i to b, and from j to e
+-- if there are spaces at a and b, the bytes before e are three words with single spaces between them: the bytes before a, those
+-- between a and b, and those between b and e
 two_words : (window : List ℕ) (a i b j e : ℕ) → i ≡ a + 1 → i < b → j ≡ b + 1 → j < e → e ≤ length window
     → get_or window a 0 ≡ 32 → get_or window b 0 ≡ 32
     → take e window ≡ slice_range window 0 a ++ spaced (slice_range window i b ∷ slice_range window j e ∷ [])
@@ -254,7 +255,8 @@ two_words window a i b j e i_is ib j_is je fits blank_a blank_b =
     ∙ ap (λ rest. slice_range window i b ++ rest) (blank_first window b j e j_is (omega arith) fits blank_b
     ∙ ap (λ rest. 32 ∷ rest) (sym (append-nil (slice_range window j e))))))
 
--- if there are spaces at a, b and d, the text up to e is four words: the bytes up to a, from i to b, from j to d, and from k to e
+-- if there are spaces at a, b and d, the bytes before e are four words with single spaces between them: the bytes before a, those
+-- between a and b, those between b and d, and those between d and e
 pub three_words : (window : List ℕ) (a i b j d k e : ℕ) → i ≡ a + 1 → i < b → j ≡ b + 1 → j < d → k ≡ d + 1 → k < e → e ≤ length window
     → get_or window a 0 ≡ 32 → get_or window b 0 ≡ 32 → get_or window d 0 ≡ 32
     → take e window ≡ slice_range window 0 a ++ spaced (slice_range window i b ∷ slice_range window j d ∷ slice_range window k e ∷ [])

@@ -24,7 +24,7 @@ pub struct RequestLine<'a> {
 }
 
 /// The number of bytes that must be available from the beginning of a line on. If there are fewer, the line is not read here.
-/// These bytes contain the whole line and its line end, except for a `write`, whose hex digits and line end may lie beyond them.
+/// Every line that is read here ends within these bytes, except a `write`, whose hex digits and line end may lie beyond them.
 pub const WINDOW: usize = 32;
 
 /// The largest number of digits in a tenant's number that is read here.
