@@ -12,12 +12,12 @@ use Rattle.slab_tables.specs.Content.{Content, kept_at, cache_in, cache_at, inde
 abbrev pub fresh_kept : Cache → Kept
 fresh_kept cache = record { colour = colour_offset cache.layout.align cache.made (layout_numbers cache); live = 0; outside = 0 }
 
--- the cache after it has made one more slab; `made` counts its slabs modulo the number of colours
+-- the cache after it has made one more slab; `made` is the number of slabs that it has ever made, modulo the number of colours
 abbrev pub made_more : Cache → Cache
 made_more cache = record cache { made = (cache.made + 1) % (layout_numbers cache).colours }
 
--- The tables after cache c of tenant t, whose entry is `cache`, makes an empty slab. The slab begins at frame `first` of the
--- tenant, which is machine frame n.
+-- The tables after cache c of tenant t makes an empty slab. The entry of this cache was `cache`. The slab begins at frame `first`
+-- of the tenant, which is machine frame n.
 abbrev pub with_new_slab : Content → ℕ → ℕ → Cache → ℕ → ℕ → Content
 with_new_slab s t c cache first n = record s {
   lists = inserted s.lists (head_of t c 2) n first;
@@ -26,7 +26,7 @@ with_new_slab s t c cache first n = record s {
 }
 
 -- The tables after the number of live objects of the slab at machine frame n is set to `count`. The slab moves to the list of its
--- new kind, and the count of live objects of its cache changes by the same difference.
+-- new kind, and the number of live objects of its cache changes by as much as that of the slab.
 abbrev pub with_count : Content → ℕ → ℕ → Cache → ℕ → ℕ → ℕ → Content
 with_count s t c cache first n count = record s {
   lists = record s.lists { places = slice_set s.lists.places n (Some (head_of t c (kind_of (layout_numbers cache).count count), first)) };
@@ -34,7 +34,8 @@ with_count s t c cache first n count = record s {
   live = slice_set s.live (index_of_cache t c) (slice_index s.live (index_of_cache t c) + count - (kept_at s.kept n).live);
 }
 
--- the tables after `outside` of the slab at machine frame n is replaced; its bits say which of the slab's large objects are live
+-- The tables after `outside` of the slab at machine frame n is replaced. For a slab of large objects, the bits of `outside` say
+-- which objects are live.
 abbrev pub with_outside : Content → ℕ → ℕ → Content
 with_outside s n outside = record s { kept = slice_set s.kept n (record (kept_at s.kept n) { outside = outside }) }
 

@@ -12,8 +12,8 @@ use Rattle.slab_tables.specs.declared.kind.Kind.{Kind}
 pub record Content : Type 0 where
   -- a superblock has 2 ^ top frames
   pub top : ℕ
-  -- for each machine frame, the list and the first frame of the slab that begins there; each cache has three lists, one for
-  -- each kind of slab
+  -- for each machine frame, the list of the slab that begins there, and the number of this frame among the tenant's frames; each
+  -- cache has three lists, one for each kind of slab
   pub lists : Placed
   -- for each machine frame, the stored state of the slab that begins there, if one does
   pub kept : List Kept
@@ -63,7 +63,7 @@ abbrev pub head_of : ℕ → ℕ → ℕ → ℕ
 head_of t c kind = 3 * index_of_cache t c + kind
 
 -- A slab with the stored state `kept` has a colour of its cache's layout, and no more live objects than a slab of the cache has
--- objects. List `head` is a list for slabs of this kind.
+-- objects. List `head` is for slabs of the kind that this number of live objects determines.
 pub record IsListed (kept : Kept) (cache : Cache) (head : ℕ) : Type 0 where
   pub kind : head % 3 ≡ kind_of (layout_numbers cache).count kept.live
   pub few : kept.live ≤ (layout_numbers cache).count
