@@ -34,8 +34,8 @@ hex_more new old front bytes pair i within new_is old_is pair_is =
     ∙ ap (λ text. front ++ text)
     (sym (encode_append (take i bytes) (get_or bytes i 0 ∷ [])) ∙ ap encode_lower (sym (take_more bytes i 0 within)))
 
--- If the written text and the digits of the rest are together `all`, this is still true after `part` of the rest is written. The
--- new rest is `behind`.
+-- If the written text and the digits of the rest are together `all`, this is still true after `part`, the front of the rest, is
+-- written. The new rest is `behind`.
 pub hex_part : (new old all rest part behind : List ℕ) → new ≡ old ++ encode_lower part → rest ≡ part ++ behind
     → old ++ encode_lower rest ≡ all → new ++ encode_lower behind ≡ all
 hex_part new old all rest part behind new_is rest_is is =

@@ -15,7 +15,7 @@ use model_core::owner::Owner;
 /// Size in bytes of a buffer for any line of a reply, including its line feed.
 pub const MOST_REPLY_BYTES: usize = 256;
 
-/// The largest number of lines in a reply: a first line, and one for each superblock in the table of owners.
+/// The largest number of lines in a reply. The table of owners has a first line, and then a line for each superblock.
 pub const MOST_ROWS: usize = 1 + OWNERS;
 
 /// Returns the number of lines of a reply.

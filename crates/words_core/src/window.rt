@@ -171,7 +171,7 @@ pub fn put_number_quickly(number: u32, at: usize, out: &mut [u8]) -> usize
     put_five(number % 100_000, at, out)
 }
 
-/// Writes a number with `itoa`, which writes the last digit first. So the digits are counted before, to find their end.
+/// Writes a number with `itoa`, which writes backwards from the end of the digits. So the digits are counted first.
 #[inline(always)]
 pub fn put_number(number: u32, at: usize, out: &mut [u8]) -> usize
     requires space { at + MOST_DIGITS ≤ length out.old }
