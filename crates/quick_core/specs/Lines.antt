@@ -1,4 +1,4 @@
--- Bytes that begin with a line that reads as a command of a tenant, or with a part of this line.
+-- Bytes that begin with a line that reads as a command of a tenant, and the parts of this line.
 use Rattle.std.specs.Prelude.{◌≡◌, ◌⊎◌, ◌+◌, ◌-◌, ◌<◌, ◌≤◌, ◌==◌, ℕ, List, length, take, slice_index, slice_range, Some, Ok}
 use Rattle.std.specs.List.{position}
 use Rattle.words_core.specs.Grammar.{reading_of}

@@ -73,7 +73,8 @@ fn decode_singly(
     most
 }
 
-/// Returns the four bytes that the eight hex digits from index `at` on encode, or `None` if one of these is not a hex digit.
+/// Returns the four bytes that the eight bytes from index `at` on encode in hex, or `None` if one of these eight is not a hex
+/// digit.
 #[inline(always)]
 fn four_pairs_at(bytes: &[u8], at: usize) -> Option<[u8; 4]>
     requires { at + 8 ≤ length bytes.now }
@@ -90,7 +91,8 @@ fn four_pairs_at(bytes: &[u8], at: usize) -> Option<[u8; 4]>
     Some([first as u8, second as u8, third as u8, fourth as u8])
 }
 
-/// Returns the byte that the two hex digits from index `at` on encode, or at least `NO_DIGIT` if one of them is not a hex digit.
+/// Returns the byte that the two bytes from index `at` on encode in hex, or a value of at least `NO_DIGIT` if one of these two is
+/// not a hex digit.
 #[inline(always)]
 fn pair_at(bytes: &[u8], at: usize) -> u16
     requires { at + 2 ≤ length bytes.now }

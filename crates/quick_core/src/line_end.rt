@@ -9,8 +9,8 @@ pub const LF: bool = false;
 /// The value of `RETURNS` for lines that end in CR LF.
 pub const CR_LF: bool = true;
 
-/// Returns the length in bytes of a line, including its end, which begins at index `end`. The end is CR LF if `RETURNS`, and LF
-/// otherwise. Returns `None` if other bytes are at index `end`.
+/// Returns the length in bytes of the line whose end begins at index `end`. The length includes the end, which is CR LF if
+/// `RETURNS`, and LF otherwise. Returns `None` if other bytes are at index `end`.
 #[inline(always)]
 pub fn line_len<const RETURNS: bool>(bytes: &[u8], end: usize) -> Option<usize>
     requires { end + (if RETURNS then 1 else 0) < length bytes.now }
