@@ -12,8 +12,8 @@ use Rattle.slab_tables.specs.declared.kind.Kind.{Kind}
 pub record Content : Type 0 where
   -- a superblock has 2 ^ top frames
   pub top : ℕ
-  -- for each machine frame, the list of the slab that begins there, and the number of this frame among the tenant's frames; each
-  -- cache has three lists, one for each kind of slab
+  -- for each machine frame, the list of the slab that begins there, and the number of the same frame among the frames of the
+  -- slab's tenant; each cache has three lists, one for each kind of slab
   pub lists : Placed
   -- for each machine frame, the stored state of the slab that begins there, if one does
   pub kept : List Kept
