@@ -1,4 +1,5 @@
--- The greatest slot of a tenant, with one more sheet or column.
+-- The greatest slot of a tenant in one sheet, and in a list of sheets or columns with one more element. The lemmas give this slot
+-- plus 1, so that 0 means that the tenant has no slot.
 use Rattle.std.proofs.Common.{◌≡◌, ℕ, ◌+◌, ◌<◌, max, List, Some, None, length, get_or, ap, refl, subst, sym, ◌∙◌, ◌⊎◌, inl, inr, arith}
 use Rattle.std.proofs.lemmas.Bool.{cases_order}
 use Rattle.std.proofs.lemmas.List.{get_or_default}
@@ -9,7 +10,7 @@ use Rattle.frame_picture.specs.Bounds.{IsGreatest}
 use Rattle.frame_picture.specs.Slots.{IsAbove, IsSheetOf}
 use Rattle.frame_picture.proofs.Greatest.{greatest_none, greatest_both}
 
--- if the tenant holds a sheet, the greatest slot of the tenant in the sheet is the sheet's slot
+-- if tenant t owns the sheet, its greatest slot in the sheet is the slot of the owner
 pub held_slot : (t : ℕ) (sheet : Sheet) (owner : Owner) → sheet.owner ≡ Some owner → owner.tenant ≡ t
     → IsGreatest (IsAbove (λ slot. IsSheetOf t slot sheet)) 0 (owner.slot + 1)
 held_slot t sheet owner is mine = record {
@@ -22,18 +23,18 @@ held_slot t sheet owner is mine = record {
   some = inr (owner.slot, is ∙ ap (λ (tenant : ℕ). Some (let o : Owner = record { tenant = tenant; slot = owner.slot } in o)) mine, refl);
 }
 
--- if another tenant holds a sheet, the tenant has no slot in it
+-- if another tenant owns the sheet, tenant t has no slot in the sheet
 pub other_slot : (t : ℕ) (sheet : Sheet) (owner : Owner) → sheet.owner ≡ Some owner → (owner.tenant ≡ t → ⊥)
     → IsGreatest (IsAbove (λ slot. IsSheetOf t slot sheet)) 0 0
 other_slot t sheet owner is other = greatest_none (IsAbove (λ slot. IsSheetOf t slot sheet)) 0
     (λ n held. other (ap (λ (o : Owner). o.tenant) (same_Some owner (record { tenant = t; slot = held.0 }) (sym is ∙ held.1))))
 
--- if nobody holds a sheet, the tenant has no slot in it
+-- if nobody owns the sheet, tenant t has no slot in the sheet
 pub no_slot : (t : ℕ) (sheet : Sheet) → sheet.owner ≡ None → IsGreatest (IsAbove (λ slot. IsSheetOf t slot sheet)) 0 0
 no_slot t sheet is = greatest_none (IsAbove (λ slot. IsSheetOf t slot sheet)) 0
     (λ n held. let none : None ≡ Some (let o : Owner = record { tenant = t; slot = held.0 } in o) = sym is ∙ held.1 in cc none)
 
--- P holds for one of the first n elements
+-- P holds for one of the first n elements of the list
 abbrev pub AnyBefore : {X : Type 0} → (X → Type 0) → List X → ℕ → Type 0
 AnyBefore {X} P xs n = (k : ℕ) × (x : X) × (k < n) × (get_or xs k x ≡ x) × P x
 
@@ -41,7 +42,7 @@ pub slots_none : {X : Type 0} (P : ℕ → X → Type 0) (xs : List X) (lowest :
 slots_none P xs lowest = greatest_none (IsAbove (λ slot. AnyBefore (P slot) xs 0)) lowest
     (λ n is. let less : is.1.0 < 0 = is.1.2 in omega arith)
 
--- with the next element, the greatest is the greater one of the greatest before it and the greatest of this element
+-- the greatest slot in the first i + 1 elements is the greatest in the first i elements or in element i, whichever is greater
 pub slots_more : {X : Type 0} (P : ℕ → X → Type 0) (xs : List X) (i lowest slots more : ℕ) (x : X) → i < length xs → x ≡ get_or xs i x
     → IsGreatest (IsAbove (λ slot. AnyBefore (P slot) xs i)) lowest slots → IsGreatest (IsAbove (λ slot. P slot x)) 0 more
     → IsGreatest (IsAbove (λ slot. AnyBefore (P slot) xs (i + 1))) lowest (max more slots)

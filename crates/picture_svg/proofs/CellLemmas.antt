@@ -1,4 +1,4 @@
--- The paths of the tones.
+-- The paths of a band's cells, with the path of one more tone or kind.
 use Rattle.std.proofs.Common.{◌≡◌, ℕ, zero, suc, ◌+◌, ◌*◌, ◌/◌, ◌^◌, ◌<◌, Bool, true, false, List, [], ◌∷◌, ◌++◌, Option, length, get_or, take, filter, codes, ap, refl, subst, sym, ◌∙◌, append_assoc, append-nil, arith, Bor}
 use Rattle.std.proofs.lemmas.Bool.{cond-true, cond-false}
 use Rattle.std.proofs.lemmas.List.Elements.{filter_more}
@@ -25,7 +25,8 @@ pub concat_push : (texts : List (List ℕ)) (text : List ℕ) → concat texts +
 concat_push [] text = sym (append-nil text)
 concat_push (x ∷ texts) text = append_assoc x (concat texts) text ∙ ap (λ t. x ++ t) (concat_push texts text)
 
--- if element i passes the filter and is related to y, the elements that pass up to it are related to `ys` and then y
+-- Let the elements before element i that pass the filter be related to `ys`, one by one. If element i passes and is related to y,
+-- the elements up to element i that pass are related to `ys` with y appended.
 pub kept_more : {A B : Type 0} (R : A → B → Type 0) (p : A → Bool) (xs : List A) (i : ℕ) (d : A) (ys : List B) (y : B) → i < length xs
     → p (get_or xs i d) ≡ true → AllZip R (filter p (take i xs)) ys → R (get_or xs i d) y → AllZip R (filter p (take (i + 1) xs)) (ys ++ y ∷ [])
 kept_more R p xs i d ys y within passes zip here =
@@ -33,7 +34,8 @@ kept_more R p xs i d ys y within passes zip here =
     (sym (filter_more p xs i d within ∙ ap (λ zs. filter p (take i xs) ++ zs) (cond-true (p (get_or xs i d)) (get_or xs i d ∷ []) [] passes)))
     (zip_push R (filter p (take i xs)) ys (get_or xs i d) y zip here)
 
--- if element i does not pass the filter, the elements that pass up to it are related to `ys`
+-- Let the elements before element i that pass the filter be related to `ys`. If element i does not pass, the elements up to
+-- element i that pass are related to `ys` too.
 pub passed_over : {A B : Type 0} (R : A → B → Type 0) (p : A → Bool) (xs : List A) (i : ℕ) (d : A) (ys : List B) → i < length xs
     → p (get_or xs i d) ≡ false → AllZip R (filter p (take i xs)) ys → AllZip R (filter p (take (i + 1) xs)) ys
 passed_over R p xs i d ys within fails zip =
@@ -41,13 +43,14 @@ passed_over R p xs i d ys within fails zip =
     (sym (filter_more p xs i d within ∙ ap (λ zs. filter p (take i xs) ++ zs) (cond-false (p (get_or xs i d)) (get_or xs i d ∷ []) [] fails)
     ∙ append-nil (filter p (take i xs)))) zip
 
--- if element i is related to y, the elements up to it are related to `ys` and then y
+-- if the elements before element i are related to `ys` and element i is related to y, the elements up to element i are related
+-- to `ys` with y appended
 pub each_more : {A B : Type 0} (R : A → B → Type 0) (xs : List A) (i : ℕ) (d : A) (ys : List B) (y : B) → i < length xs
     → AllZip R (take i xs) ys → R (get_or xs i d) y → AllZip R (take (i + 1) xs) (ys ++ y ∷ [])
 each_more R xs i d ys y within zip here =
     subst (λ zs. AllZip R zs (ys ++ y ∷ [])) (sym (take_more xs i d within)) (zip_push R (take i xs) ys (get_or xs i d) y zip here)
 
--- the quarters of shade i
+-- the number of taken quarters of shade i
 abbrev pub quarters_at : ℕ → ℕ
 quarters_at i = get_or (1 ∷ 2 ∷ 3 ∷ 4 ∷ []) i 0
 
@@ -59,7 +62,8 @@ quarters_are a b c e d (suc (suc zero)) less = refl
 quarters_are a b c e d (suc (suc (suc zero))) less = refl
 quarters_are a b c e d (suc (suc (suc (suc i)))) less = absurd (omega arith)
 
--- the path for entry i of the table of shades is a path of the tone with `quarters_at i`, in the shade of these quarters
+-- if a path with the class and the quarters of entry i of the table of shades was appended, it has `quarters_at i` quarters and
+-- their class
 pub tone_at : {old new : Option (List ℕ)} (columns : List (List Tone)) (rows : ℕ) (kind : FrameKind) (a b c e : Bor (List ℕ)) (d : Bor (List ℕ) × ℕ)
     (i : ℕ) → i < 4 → a.now ≡ codes " one" → b.now ≡ codes " two" → c.now ≡ codes " three" → e.now ≡ []
     → AppendsText old new (IsTonePath columns rows (record { kind = kind; quarters = (get_or ((a, 1) ∷ (b, 2) ∷ (c, 3) ∷ (e, 4) ∷ []) i d).1 })
@@ -77,7 +81,7 @@ tone_at columns rows kind a b c e d (suc (suc (suc (suc i)))) less one two three
 
 -- ---- the kinds
 
--- the shade paths of a kind of taken frames are the paths of this kind
+-- for a kind of taken frames, the paths of its shades are all paths of the kind
 pub taken_kind : (columns : List (List Tone)) (grid : Grid) (kind : FrameKind) (text : List ℕ) → (kind ≡ FrameKind.Free → ⊥) → (kind ≡ FrameKind.NotHeld → ⊥)
     → AreShadePaths columns grid kind text → AreKindPaths columns grid kind text
 taken_kind columns grid FrameKind.Free text free none paths = absurd (free refl)
@@ -87,7 +91,8 @@ taken_kind columns grid FrameKind.Full text free none paths = paths
 taken_kind columns grid FrameKind.Partial text free none paths = paths
 taken_kind columns grid FrameKind.Empty text free none paths = paths
 
--- if these are the paths of the first i kinds, they are, with the paths of kind i, those of the first i + 1 kinds
+-- if `paths` has the paths of the first i kinds and `text` has the paths of kind i, `paths` with `text` appended has the paths of
+-- the first i + 1 kinds
 pub kind_more : (columns : List (List Tone)) (grid : Grid) (i : ℕ) (kind : FrameKind) (paths : List (List ℕ)) (text : List ℕ) → i < 6 → get_or ALL i FrameKind.NotHeld ≡ kind
     → AllZip (AreKindPaths columns grid) (take i ALL) paths → AreKindPaths columns grid kind text
     → AllZip (AreKindPaths columns grid) (take (i + 1) ALL) (paths ++ text ∷ [])

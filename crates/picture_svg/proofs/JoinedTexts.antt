@@ -1,4 +1,4 @@
--- One text after another.
+-- Texts that are written one after another.
 use Rattle.std.proofs.Common.{◌≡◌, ℕ, zero, suc, ◌+◌, List, [], ◌++◌, Option, Result, Ok, Err, OnOk, flat_map, ap, refl, sym, ◌∙◌, append_assoc, append-nil, arith}
 use Rattle.std.specs.List.{range_with_len}
 use Rattle.std.specs.Prelude.{⊤}
@@ -6,15 +6,15 @@ use Rattle.std.proofs.KnownBytes.{Appends-kept, Appends-nil, Appends-trans}
 use Rattle.std.specs.Io.KnownBytes.{Appends, Keeps}
 use Rattle.picture_svg.specs.Texts.{AppendsText, WritesText}
 
--- before anything is written, the empty text was appended
+-- if the empty text has property P, writing nothing appends a text with P
 pub nothing : (a : Option (List ℕ)) (P : List ℕ → Type 0) → P [] → AppendsText a a P
 nothing a P is = record { text = []; appended = Appends-nil a; is = is }
 
--- a text that was appended is exactly this text
+-- if `text` was appended, a text that is equal to `text` was appended
 pub exactly : (a b : Option (List ℕ)) (text : List ℕ) → Appends a b text → AppendsText a b (λ x. x ≡ text)
 exactly a b text h = record { text = text; appended = h; is = refl }
 
--- if exactly this text was appended after `front`, exactly the two were appended
+-- if a text equal to `front` was appended and then `text`, a text equal to `front ++ text` was appended
 pub then_exactly : {a b : Option (List ℕ)} {front : List ℕ} (c : Option (List ℕ)) (text : List ℕ) → AppendsText a b (λ x. x ≡ front)
     → Appends b c text → AppendsText a c (λ x. x ≡ front ++ text)
 then_exactly {a} {b} {front} c text first last = record {
@@ -31,18 +31,18 @@ then_text {a} {b} {c} {front} {back} first last = record {
   is = ap (λ x. x ++ last.text) first.is ∙ ap (λ x. front ++ x) last.is;
 }
 
--- if a text was appended, so was a text that is equal to it
+-- if a text equal to `text` was appended, and `text` is equal to `whole`, a text equal to `whole` was appended
 pub renamed : {a b : Option (List ℕ)} {text : List ℕ} (whole : List ℕ) → text ≡ whole → AppendsText a b (λ x. x ≡ text) → AppendsText a b (λ x. x ≡ whole)
 renamed whole e h = record { text = h.text; appended = h.appended; is = h.is ∙ e }
 
 pub as_text : {a b : Option (List ℕ)} {text : List ℕ} (whole : List ℕ) → AppendsText a b (λ x. x ≡ text) → text ≡ whole → AppendsText a b (λ x. x ≡ whole)
 as_text whole h e = renamed whole e h
 
--- if a text with a property was appended, some text was, which is not specified
+-- if a text with property P was appended, some text was appended
 pub whatever : {a b : Option (List ℕ)} {P : List ℕ → Type 0} → AppendsText a b P → AppendsText a b (λ _. ⊤)
 whatever h = record { text = h.text; appended = h.appended; is = tt }
 
--- if a text with P and then a text with Q was appended, and R holds for the two joined, a text with R was appended
+-- if a text with P was appended and then a text with Q, and R holds for the two texts joined, a text with R was appended
 pub both : {a b c : Option (List ℕ)} {P Q : List ℕ → Type 0} (R : List ℕ → Type 0) → AppendsText a b P → AppendsText b c Q
     → ((x y : List ℕ) → P x → Q y → R (x ++ y)) → AppendsText a c R
 both {a} {b} {c} R first second joined = record {
@@ -51,7 +51,7 @@ both {a} {b} {c} R first second joined = record {
   is = joined first.text second.text first.is second.is;
 }
 
--- if a text with P and then this text was appended, and R holds for the two joined, a text with R was appended
+-- if a text with P was appended and then `text`, and R holds for the two texts joined, a text with R was appended
 pub and_text : {a b : Option (List ℕ)} {P : List ℕ → Type 0} (c : Option (List ℕ)) (text : List ℕ) (R : List ℕ → Type 0) → AppendsText a b P
     → Appends b c text → ((x : List ℕ) → P x → R (x ++ text)) → AppendsText a c R
 and_text {a} {b} c text R first last joined = record {
@@ -60,7 +60,7 @@ and_text {a} {b} c text R first last joined = record {
   is = joined first.text first.is;
 }
 
--- if a text and then this text was appended, some text was, which is not specified
+-- if a text was appended and then `text`, some text was appended
 pub more : {a b : Option (List ℕ)} {P : List ℕ → Type 0} (c : Option (List ℕ)) (text : List ℕ) → AppendsText a b P
     → Appends b c text → AppendsText a c (λ _. ⊤)
 more c text first last = and_text c text (λ _. ⊤) first last (λ _ _. tt)
@@ -90,7 +90,7 @@ pub last_exactly : {E : Type 0} {a b : Option (List ℕ)} {front : List ℕ} (c 
 last_exactly c (Ok x) text whole first last e = renamed whole e (then_exactly c text first last)
 last_exactly c (Err x) text whole first last e = tt
 
--- a flush leaves what was written unchanged
+-- if a flush leaves the bytes unchanged, a text with P that was appended before the flush is still appended after it
 pub flushed : {E : Type 0} {a b : Option (List ℕ)} {P : List ℕ → Type 0} (c : Option (List ℕ)) (r : Result (Unit {0}) E) → AppendsText a b P → Keeps b c
     → WritesText r a c P
 flushed {E} {a} {b} c (Ok x) h kept = record { text = h.text; appended = Appends-kept a b c h.text h.appended kept; is = h.is }

@@ -1,4 +1,4 @@
--- The marks of refusals, and the steps of free frames.
+-- The texts of the marks of refusals, and of the layers of free frames.
 use Rattle.std.proofs.Common.{◌≡◌, ◌≢◌, ℕ, ◌+◌, ◌-◌, ◌*◌, ◌/◌, ◌^◌, ◌++◌, List, [], codes, flat_map, length, ap, sym, ◌∙◌, append_assoc, append-nil, ne_eqb, eq-eqb}
 use Rattle.std.specs.List.{range_with_len}
 use Rattle.std.specs.Fmt.{decimal}

@@ -1,4 +1,4 @@
--- The bands of a picture, one after the other.
+-- The grids and bands of the tenants of a picture, one after the other.
 use Rattle.std.proofs.Common.{◌≡◌, ℕ, ◌+◌, ◌*◌, ◌^◌, ◌<◌, ◌≤◌, List, [], ◌∷◌, ◌++◌, Some, length, max, take, slice_get, ap, refl, subst, sym, ◌∙◌, ◌⊎◌, inl, inr, arith, append_assoc, append-nil, length-take}
 use Rattle.std.proofs.lemmas.Bool.{cases_order}
 use Rattle.std.proofs.lemmas.List.{get_or-take}
@@ -12,7 +12,7 @@ use Rattle.picture_svg.specs.declared.picture.Picture.{Picture}
 use Rattle.picture_svg.specs.Pictures.{bottom_of, drawn_tenants, most_rows_of, rows_of, AreBands, IsBandOf}
 use Rattle.picture_svg.specs.Sizes.{band_height, lower}
 
--- ---- the history and the tenant determine a grid
+-- ---- the history, the tenant and the largest number of rows determine the number of rows of a grid
 
 greatest_unique : (P : ℕ → Type 0) (lowest a b : ℕ) → IsGreatest P lowest a → IsGreatest P lowest b → a ≡ b
 greatest_unique P lowest a b first second = let le : a ≤ b = upto a b first second in let ge : b ≤ a = upto b a second first in omega arith
@@ -46,7 +46,7 @@ same_rows history t most a b first second =
     (subst (λ frames. IsLeastPower (λ size. div_ceil frames size ≤ most) (max frames 1) a.frames_per_row) frames first.row) second.row in
     a.all ∙ ap (λ n. div_ceil n a.frames_per_row) frames ∙ ap (div_ceil b.frames) size ∙ sym b.all
 
--- ---- grids of the tenants from a given one on
+-- ---- the grids of the tenants from tenant t on
 
 abbrev pub AreGrids : History → ℕ → ℕ → List Grid → Type 0
 AreGrids history most t [] = Unit {0}
@@ -80,7 +80,8 @@ grids_of_bands picture history t top [] text are = tt
 grids_of_bands picture history t top (grid ∷ grids) text are =
     (are.2.is_grid, grids_of_bands picture history (t + 1) (lower top (band_height grid.rows)) grids are.1 are.3)
 
--- if the band of the next tenant is appended below the others, these are the bands of the tenants from t on
+-- if the band of tenant k, the next one, begins where the bands of the tenants from t on end, appending its text gives the bands
+-- of the tenants from t to k
 pub bands_push : (picture : Picture) (history : History) (t top k bottom : ℕ) (grids : List Grid) (grid : Grid) (text band : List ℕ) → t + length grids ≡ k
     → bottom_of top (rows_of grids) ≡ bottom → AreBands picture history t top grids text → IsBandOf picture history k grid bottom band
     → AreBands picture history t top (grids ++ grid ∷ []) (text ++ band)

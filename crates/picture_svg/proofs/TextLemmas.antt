@@ -6,12 +6,12 @@ use Rattle.picture_svg.specs.declared.svg.TheConstants.{ABOVE, LEFT}
 use Rattle.picture_svg.specs.Sizes.{lower}
 use Rattle.picture_svg.specs.Texts.{figures_text, name_text, title_text}
 
--- twelve joined texts and one more text are the thirteen texts joined
+-- appending a text to twelve joined texts gives the thirteen texts joined
 twelve : (a b c d e f g h i j k l rest : List ℕ) → (a ++ (b ++ (c ++ (d ++ (e ++ (f ++ (g ++ (h ++ (i ++ (j ++ (k ++ l))))))))))) ++ rest
     ≡ a ++ (b ++ (c ++ (d ++ (e ++ (f ++ (g ++ (h ++ (i ++ (j ++ (k ++ (l ++ rest)))))))))))
 twelve a b c d e f g h i j k l rest = simp append_assoc
 
--- the parts of a band, appended one after another, are joined as in the definition
+-- the parts of a band, appended one after another, give the text in the definition of a band
 pub band_parts : (a b c d e f g h i : List ℕ) → (((((((a ++ b) ++ c) ++ d) ++ e) ++ f) ++ g) ++ h) ++ i
     ≡ concat (a ∷ b ∷ c ∷ d ∷ (e ++ f) ∷ g ∷ h ∷ i ∷ [])
 band_parts a b c d e f g h i = simp (append_assoc, append-nil)
@@ -33,7 +33,7 @@ figures_is taken held most refused y top taken' held' refused' is_taken is_held 
     (codes " of ") (decimal held') (codes " frames taken; at most ") (decimal most) (codes " taken; refused for want of frames: ") (decimal refused')
     (codes "</text>\n")
 
--- the parts of a title, appended one after another, are joined as in the definition
+-- the parts of a title, appended one after another, give the text in the definition of a title
 title_parts : (a b c d e n rest : List ℕ) → ((a ++ (b ++ (c ++ (d ++ e)))) ++ n) ++ rest ≡ a ++ (b ++ (c ++ (d ++ (e ++ (n ++ rest)))))
 title_parts a b c d e n rest = simp append_assoc
 

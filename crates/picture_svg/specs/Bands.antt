@@ -1,4 +1,4 @@
--- The band of a tenant.
+-- The text of a tenant's band: its title and figures, its rows, its refusals and its free frames.
 use Rattle.std.specs.Prelude.{◌≡◌, ℕ, ◌+◌, ◌-◌, ◌<◌, ◌≤◌, List, [], ◌∷◌, Some, SomeIndex, length, slice_get, slice_index_or}
 use Rattle.std.specs.List.{concat}
 use Rattle.frame_picture.specs.declared.drawing.TheConstants.{MOST_ROWS}
@@ -16,33 +16,34 @@ use Rattle.picture_svg.specs.Marks.{refusals_text, stack_text}
 use Rattle.picture_svg.specs.Sizes.{lower, rows_height}
 use Rattle.picture_svg.specs.Texts.{figures_text, tenant_title}
 
--- the figures of the last column, and the most frames that were taken in a column
+-- the text of tenant t's figures in the last column, and of the largest number of its frames that were taken in any column
 pub record IsFiguresText (columns : List Column) (t top : ℕ) (text : List ℕ) : Type 0 where
   pub most : ℕ
   pub greatest : IsGreatest (λ frames. SomeIndex columns (λ n. taken_in_column columns t n ≡ frames)) 0 most
   pub whole : let last = length columns - 1 in
       text ≡ figures_text (taken_in_column columns t last) (figures_in_column columns t last).held most (refused_until columns t last) top
 
--- a stack whose height represents the largest number of free frames in a column, but at least 1
+-- the text of a stack whose height represents the largest number of tenant t's free frames in any column, but at least 1
 pub record IsStackText (history : History) (t foot : ℕ) (text : List ℕ) : Type 0 where
   pub most : ℕ
   pub greatest : IsGreatest (λ frames. SomeIndex (columns_of history) (λ n. free_in_column (columns_of history) t 0 n
       ≡ frames)) 1 most
   pub whole : text ≡ stack_text (columns_of history) t (drawn_order history) foot most
 
--- the cells are the tones of the rows of tenant t in the first columns
+-- element n of `cells` has the tones of tenant t's rows in column n; `cells` may have fewer elements than there are columns
 pub record AreCellsOf (columns : List Column) (t : ℕ) (grid : Grid) (cells : List (List Tone)) : Type 0 where
   pub few : length cells ≤ length columns
   pub each : (at row : ℕ) (column : Column) (tones : List Tone) → slice_get columns at ≡ Some column → slice_get cells at
       ≡ Some tones
       → row < MOST_ROWS → row < grid.rows → IsRowTone column t grid row (slice_index_or tones row not_held)
 
--- the height at which the rows end in a band that begins at `top`
+-- the y coordinate at which the rows end, in a band that begins at the y coordinate `top`
 abbrev pub foot_of : Grid → ℕ → ℕ
 foot_of grid top = lower (lower top ABOVE) (rows_height grid.rows)
 
--- The band of tenant t from the height `top` down: its title and figures, its rows, the marks of refusals and the free frames.
--- The rest is not specified: the ground of the rows, the axes of frames and slots beside them, and the axis of lines below.
+-- The text of tenant t's band, from the y coordinate `top` down: its title and figures, its rows, the marks of refusals and the
+-- free frames. The other parts are not specified: the background of the rows, the axes of frames and slots beside the rows, and
+-- the axis of lines at the bottom.
 pub record IsBand (history : History) (t : ℕ) (grid : Grid) (cells : List (List Tone)) (top gap : ℕ) (text : List ℕ) : Type 0 where
   pub figures : List ℕ
   pub ground : List ℕ

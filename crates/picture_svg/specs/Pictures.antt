@@ -1,4 +1,4 @@
--- A whole picture.
+-- The text of a whole picture.
 use Rattle.std.specs.Prelude.{◌≡◌, ℕ, ◌+◌, ◌-◌, ◌*◌, ◌/◌, ◌^◌, max, min, List, [], ◌∷◌, ◌++◌, Option, codes, fold, length, map, vec_len}
 use Rattle.std.specs.List.{concat}
 use Rattle.frame_picture.specs.declared.drawing.TheConstants.{MOST_ROWS}
@@ -25,7 +25,7 @@ end_of_tenants picture = picture.end
 abbrev pub most_columns_in : Picture → ℕ
 most_columns_in picture = vec_len picture.cells
 
--- the number of pixels by which the word at the marks of refusals is moved down
+-- the number of pixels by which the word `refused` is moved down
 abbrev pub label_gap_of : Picture → ℕ
 label_gap_of picture = picture.label_gap
 
@@ -33,7 +33,7 @@ label_gap_of picture = picture.label_gap
 abbrev pub drawn_tenants : Picture → ℕ
 drawn_tenants picture = end_of_tenants picture - first_tenant picture
 
--- the same tenants are drawn, in the same number of columns and with the same gap
+-- both pictures draw the same tenants, have cells for the same number of columns, and have the same gap for the word `refused`
 pub record IsSamePicture (old new : Picture) : Type 0 where
   pub first : first_tenant new ≡ first_tenant old
   pub end : end_of_tenants new ≡ end_of_tenants old
@@ -44,14 +44,14 @@ pub record IsSamePicture (old new : Picture) : Type 0 where
 abbrev pub most_rows_of : ℕ → ℕ
 most_rows_of bands = TALL_BANDS * MOST_ROWS / max bands TALL_BANDS
 
--- the height at which bands with these numbers of rows end, if the first begins at `top`
+-- the y coordinate at which the last of these bands ends, if the first begins at `top`; `rows` has each band's number of rows
 abbrev pub bottom_of : ℕ → List ℕ → ℕ
 bottom_of top rows = fold (λ top rows. lower top (band_height rows)) top rows
 
 abbrev pub rows_of : List Grid → List ℕ
 rows_of grids = map (λ grid. grid.rows) grids
 
--- the band of tenant t, with the columns that there are cells for
+-- the text of tenant t's band; it shows the first columns, as many as the picture has cells for
 pub record IsBandOf (picture : Picture) (history : History) (t : ℕ) (grid : Grid) (top : ℕ) (text : List ℕ) : Type 0 where
   pub cells : List (List Tone)
   pub is_grid : IsGridOf history t (most_rows_of (drawn_tenants picture)) grid
@@ -59,14 +59,15 @@ pub record IsBandOf (picture : Picture) (history : History) (t : ℕ) (grid : Gr
   pub are_cells : AreCellsOf (columns_of history) t grid cells
   pub is_band : IsBand history t grid cells top (label_gap_of picture) text
 
--- the bands of the tenants from t on, one below the other
+-- the text of the bands of the tenants from t on, one for each grid, one below the other from `top` on
 abbrev pub AreBands : Picture → History → ℕ → ℕ → List Grid → List ℕ → Type 0
 AreBands picture history t top [] text = text ≡ []
 AreBands picture history t top (grid ∷ grids) text = (band : List ℕ) × (rest : List ℕ)
     × IsBandOf picture history t grid top band
     × AreBands picture history (t + 1) (lower top (band_height grid.rows)) grids rest × (text ≡ band ++ rest)
 
--- The picture of a history of the trace with this name: a title, and a band for each drawn tenant. The legend is not specified.
+-- The text of the picture of a history: a title with the name of the trace, and a band for each drawn tenant. The text of the
+-- legend is not specified.
 pub record IsPictureOf (picture : Picture) (history : History) (name : Option (List ℕ)) (text : List ℕ) : Type 0 where
   pub grids : List Grid
   pub legend : List ℕ

@@ -1,4 +1,4 @@
--- The texts of the values of a picture, in SVG.
+-- The SVG texts of the values and parts of a picture.
 use Rattle.std.specs.Prelude.{ℕ, ◌+◌, ◌-◌, ◌*◌, ◌/◌, ◌%◌, ◌^◌, ◌==◌, nat_lt, false, if◌then◌else◌, List, [], ◌∷◌, ◌++◌, Option, Some, None, Result, OnOk, codes, decimal, flat_map}
 use Rattle.std.specs.Fmt.{format_spec, padded_integral}
 use Rattle.std.specs.Io.KnownBytes.{Appends}
@@ -17,12 +17,12 @@ pub record AppendsText (old new : Option (List ℕ)) (IsText : List ℕ → Type
 abbrev pub WritesText : {E : Type 0} → Result (Unit {0}) E → Option (List ℕ) → Option (List ℕ) → (List ℕ → Type 0) → Type 0
 WritesText result old new IsText = OnOk result (AppendsText old new IsText)
 
--- a number of parts divided by 10^8, as a decimal with eight digits after the point
+-- a number of hundred-millionths, as a decimal with eight digits after the point
 abbrev pub parts_text : ℕ → List ℕ
 parts_text parts = decimal (parts / 10 ^ 8)
     ++ (codes "." ++ padded_integral (format_spec 32 0 4 8 (2 ^ 64 - 1)) false [] (decimal (parts % 10 ^ 8)))
 
--- n divided by d, or 0 if d is 0
+-- n divided by d, rounded down to eight digits after the point, or 0 if d is 0
 abbrev pub ratio_text : ℕ → ℕ → List ℕ
 ratio_text n d = parts_text (n * 10 ^ 8 / d)
 
@@ -33,7 +33,7 @@ opening_text height = concat (codes "<svg xmlns=\"http://www.w3.org/2000/svg\" v
     ∷ codes "\" width=\"" ∷ decimal WHOLE_WIDTH ∷ codes "\" height=\"" ∷ decimal height ∷ codes "\">\n" ∷ STYLE.now
     ∷ codes "<rect width=\"" ∷ decimal WHOLE_WIDTH ∷ codes "\" height=\"" ∷ decimal height ∷ codes "\" fill=\"#fff\"/>\n" ∷ [])
 
--- a byte of a name; a control character, which SVG text cannot contain, becomes a question mark
+-- a byte of a name in SVG text: `&`, `<` and `>` are escaped, and a byte below 32 becomes a question mark
 abbrev pub escaped : ℕ → List ℕ
 escaped byte = if byte == 38 then codes "&amp;" else if byte == 60 then codes "&lt;" else if byte == 62 then codes "&gt;"
     else if nat_lt byte 32 then codes "?" else byte ∷ []
@@ -43,7 +43,7 @@ abbrev pub name_text : Option (List ℕ) → List ℕ
 name_text None = codes "a trace"
 name_text (Some name) = flat_map escaped name
 
--- the title of a picture, and the sizes below it
+-- the title of a picture, and the line below it with the numbers of superblocks, of frames and of lines per column
 unfoldable pub title_text : ℕ → Option (List ℕ) → ℕ → ℕ → ℕ → List ℕ
 title_text lines name superblocks frames width = concat (codes "<text class=\"head\" x=\"" ∷ decimal LEFT
     ∷ codes "\" y=\"30\">Frames over " ∷ decimal lines
@@ -52,21 +52,22 @@ title_text lines name superblocks frames width = concat (codes "<text class=\"he
     ∷ codes ", of " ∷ decimal frames ∷ codes " frames each. Lines to a column: " ∷ decimal width
     ∷ codes "; it shows the machine after the last of them.</text>\n" ∷ [])
 
--- the note above the rows of a band, at the right, if each row has several frames
+-- the note at the right above the rows of a band; it is empty if a row has only one frame
 unfoldable pub row_note : ℕ → ℕ → List ℕ
 row_note frames y = if nat_lt 1 frames then concat (codes "<text class=\"right\" x=\"" ∷ decimal (LEFT + WIDTH)
     ∷ codes "\" y=\"" ∷ decimal y
     ∷ codes "\">a row is " ∷ decimal frames ∷ codes " frames: coloured as most taken ones, darker where more are taken</text>\n"
     ∷ []) else []
 
--- the title of the band of tenant t
+-- the title of the band of tenant t, and the note beside it
 unfoldable pub tenant_title : ℕ → ℕ → ℕ → List ℕ
 tenant_title t frames_per_row top = let y = lower top (ABOVE - 8) in
     concat (codes "<text class=\"tenant\" x=\"" ∷ decimal LEFT ∷ codes "\" y=\"" ∷ decimal y ∷ codes "\">Tenant " ∷ decimal t
     ∷ codes "</text>\n"
     ∷ row_note frames_per_row y ∷ [])
 
--- a tenant's taken and held frames at the end, the most frames that were taken in a column, and its refusals for lack of frames
+-- the tenant's figures beside the title: its taken and held frames at the end, the largest number of its taken frames in any
+-- column, and the number of its requests that were refused for lack of frames
 unfoldable pub figures_text : ℕ → ℕ → ℕ → ℕ → ℕ → List ℕ
 figures_text taken held most refused top =
     concat (codes "<text x=\"" ∷ decimal (LEFT + 90) ∷ codes "\" y=\"" ∷ decimal (lower top (ABOVE - 8))
@@ -81,6 +82,6 @@ rectangle_path r = concat (codes "M" ∷ decimal r.column ∷ codes " " ∷ deci
     ∷ decimal r.rows
     ∷ codes "h-" ∷ decimal r.columns ∷ codes "z" ∷ [])
 
--- a path with these classes
+-- a path element with the class of a kind and the class of a shade
 unfoldable pub path_text : List ℕ → List ℕ → List ℕ → List ℕ
 path_text kind shade path = concat (codes "<path class=\"" ∷ kind ∷ shade ∷ codes "\" d=\"" ∷ path ∷ codes "\"/>\n" ∷ [])

@@ -21,7 +21,7 @@ use kernel_core::FrameKind;
 use std::fmt;
 use std::io::{self, Write};
 
-/// The position of the first column, from the left.
+/// The distance of the first column from the left edge of the picture.
 const LEFT: u32 = 72;
 
 /// The width of all columns together.
@@ -33,28 +33,28 @@ const WHOLE_WIDTH: u32 = LEFT + WIDTH + 36;
 /// The height of the part above the bands.
 pub const HEAD: u32 = 116;
 
-/// The height of a band above its rows, and below them.
+/// The heights of the parts of a band above its rows and below its rows.
 const ABOVE: u32 = 26;
 
 const BELOW: u32 = 132;
 
-/// The height of the free frames below a band, and their distance from the rows.
+/// The height of the stack of free frames below the rows of a band, and the distance of its foot from the rows, less this height.
 const STACK: u32 = 56;
 
 const STACK_TOP: u32 = 36;
 
-/// The distance of the marks of refusals from the rows, and their height.
+/// The distance of the marks of refusals from the rows, and the height of a mark.
 const REFUSALS_TOP: u32 = 4;
 
 const REFUSALS: u32 = 9;
 
-/// The approximate height of the rows of a band.
+/// The approximate height of all rows of a band together.
 const ROWS_HEIGHT: u32 = 192;
 
 /// The largest height of a row.
 const MOST_ROW_HEIGHT: u32 = 16;
 
-/// The largest number of slots with a line and a number, and the largest number with a tick.
+/// The largest number of slots that get a line and a number, and the largest number of slots that get a tick.
 const MOST_SLOT_LINES: u32 = 8;
 
 const MOST_SLOT_TICKS: u32 = 64;
@@ -120,10 +120,10 @@ impl fmt::Display for Decimal {
     }
 }
 
-/// The classes of rows of several frames, with the number of their quarters that are taken. Full rows need no class.
+/// The additional class of a row for each number of taken quarters. A row with four taken quarters needs none.
 const SHADES: [(&str, u8); 4] = [(" one", 1), (" two", 2), (" three", 3), ("", 4)];
 
-/// Returns the class of a kind of cells.
+/// Returns the CSS class of cells of this kind.
 fn class_of(cell: FrameKind) -> &'static str
     ensures { result.now ≡ class_of cell }
 {
@@ -190,7 +190,7 @@ pub fn draw_head<W: Write>(out: &mut W, history: &History, name: Option<&str>) -
     draw_orders(out, history.order() as usize)
 }
 
-/// Draws the legend of the frames: a colour for each kind, and for a refused request.
+/// Draws the legend of the frames: a colour for each kind, and one for refused requests.
 fn draw_kinds<W: Write>(out: &mut W) -> io::Result<()>
     ensures { WritesText result (W.contents out.old) (W.contents out.new) (λ _. ⊤) }
 {
@@ -204,7 +204,7 @@ fn draw_kinds<W: Write>(out: &mut W) -> io::Result<()>
     draw_word(out, x, 64, "a request was refused for want of frames")
 }
 
-/// Draws the legend of the free frames: a colour for each order, the greatest order first.
+/// Draws the legend of the free frames: a colour for each order of their free block, the greatest order first.
 fn draw_orders<W: Write>(out: &mut W, order: usize) -> io::Result<()>
     requires { order < ORDERS }
     ensures { WritesText result (W.contents out.old) (W.contents out.new) (λ _. ⊤) }
@@ -227,7 +227,7 @@ fn draw_orders<W: Write>(out: &mut W, order: usize) -> io::Result<()>
     Ok(())
 }
 
-/// Returns the class of free blocks whose order is `depth` below that of a superblock.
+/// Returns the CSS class of free blocks whose order is `depth` below the order of a superblock.
 fn depth_class(depth: usize) -> &'static str
     ensures { result.now ≡ depth_class depth }
 {
@@ -244,7 +244,7 @@ fn depth_class(depth: usize) -> &'static str
     }
 }
 
-/// Writes a name as SVG text. A control character, which SVG text cannot contain, becomes a question mark.
+/// Writes a name as SVG text. `&`, `<` and `>` are escaped, and a byte below 32 becomes a question mark.
 fn write_escaped<W: Write>(out: &mut W, name: &[u8]) -> io::Result<()>
     ensures { WritesText result (W.contents out.old) (W.contents out.new) (λ text. text ≡ flat_map escaped name.now) }
 {
@@ -260,8 +260,8 @@ fn write_escaped<W: Write>(out: &mut W, name: &[u8]) -> io::Result<()>
     Ok(())
 }
 
-/// Draws the band of tenant `t` with these columns of cells, from the height `top` down. The word at the marks of refusals is
-/// moved down by `gap` pixels.
+/// Draws the band of tenant `t` with these columns of cells, from the y coordinate `top` down. The word `refused` beside the marks
+/// of refusals is moved down by `gap` pixels.
 pub fn draw_band<W: Write>(
     out: &mut W,
     history: &History,
@@ -292,7 +292,7 @@ pub fn draw_band<W: Write>(
     draw_lines_axis(out, history, foot)
 }
 
-/// Draws the cells of a band, upwards from the height `foot`.
+/// Draws the cells of a band, upwards from the y coordinate `foot`.
 fn draw_rows<W: Write>(
     out: &mut W,
     columns: &[[Tone; MOST_ROWS]],
@@ -318,8 +318,8 @@ fn draw_rows<W: Write>(
     out.write_all(b"</g>\n")
 }
 
-/// Draws all rows of a kind of taken frames. A row is darker the more of its frames are taken. If a row is one frame, there is
-/// only one shade.
+/// Draws all cells of a kind of taken frames. A cell is darker if more frames of its row are taken. If a row has only one frame,
+/// there is only one shade.
 fn draw_shades<W: Write>(
     out: &mut W,
     kind: FrameKind,
@@ -337,7 +337,7 @@ fn draw_shades<W: Write>(
     Ok(())
 }
 
-/// Draws all rows of a tone.
+/// Draws all cells of a tone as one path.
 fn draw_tone<W: Write>(
     out: &mut W,
     tone: Tone,
@@ -353,7 +353,7 @@ fn draw_tone<W: Write>(
     out.write_all(b"\"/>\n")
 }
 
-/// Draws all cells of a tone as rectangles. One unit to the right is a column, and one unit upwards is a row.
+/// Writes the rectangles of a tone's path. One unit to the right is a column, and one unit upwards is a row.
 fn draw_cells<W: Write>(
     out: &mut W,
     tone: Tone,
@@ -509,8 +509,8 @@ fn draw_frames_axis<W: Write>(out: &mut W, grid: Grid, y: u32, bottom: u32) -> i
     Ok(())
 }
 
-/// Draws a tick to the right of the rows where a slot begins, and for some slots also the number and a line across the rows.
-/// Ticks and numbers do not overlap, however many slots there are.
+/// Draws the axis of slots to the right of the rows. It has a tick where a slot begins, and for some slots also the slot's number
+/// and a line across the rows. Slots are left out if their ticks or numbers would overlap.
 fn draw_slots_axis<W: Write>(out: &mut W, grid: Grid, y: u32, bottom: u32) -> io::Result<()>
     ensures { WritesText result (W.contents out.old) (W.contents out.new) (λ _. ⊤) }
 {
@@ -537,7 +537,7 @@ fn draw_slots_axis<W: Write>(out: &mut W, grid: Grid, y: u32, bottom: u32) -> io
     draw_slot_ticks(out, grid, bottom)
 }
 
-/// Draws a tick where a slot begins, leaving out slots if ticks would overlap.
+/// Draws a tick at the beginning of each slot. Leaves out slots if the ticks would overlap.
 fn draw_slot_ticks<W: Write>(out: &mut W, grid: Grid, bottom: u32) -> io::Result<()>
     ensures { WritesText result (W.contents out.old) (W.contents out.new) (λ _. ⊤) }
 {
@@ -553,13 +553,13 @@ fn draw_slot_ticks<W: Write>(out: &mut W, grid: Grid, bottom: u32) -> io::Result
     out.write_all(b"\"/>\n")
 }
 
-/// Returns the height above the foot of the rows at which a frame begins.
+/// Returns the distance from the foot of the rows up to the lower edge of the row that has this frame.
 fn height_of(grid: Grid, frame: u32) -> u32 {
     let rows = frame.checked_div(grid.frames_per_row).unwrap_or(0);
     rows.saturating_mul(row_height(grid))
 }
 
-/// Returns the distance between the numbers on the frames' axis: a power of two that gives at most eight steps.
+/// Returns the distance between the numbers on the axis of frames: a power of two that gives at most eight steps.
 fn frames_step(frames: u32) -> u32 {
     let mut step = 1u32;
     for _ in 0..31 {
@@ -571,8 +571,8 @@ fn frames_step(frames: u32) -> u32 {
     step
 }
 
-/// Writes figures of the tenant beside the title of its band: its frames at the end, the largest number of its frames that were
-/// taken in a column, and the number of its requests that were refused for lack of frames.
+/// Writes the figures of tenant `t` beside the title of its band: its taken and held frames at the end, the largest number of its
+/// taken frames in any column, and the number of its requests that were refused for lack of frames.
 fn draw_figures<W: Write>(out: &mut W, columns: &[Column], t: u8, top: u32) -> io::Result<()>
     ensures { WritesText result (W.contents out.old) (W.contents out.new) (IsFiguresText columns.now t top) }
 {
@@ -589,8 +589,8 @@ fn draw_figures<W: Write>(out: &mut W, columns: &[Column], t: u8, top: u32) -> i
     )
 }
 
-/// Marks the columns with lines in which a request of tenant `t` was refused for lack of frames. The word that names the marks is
-/// moved down by `gap` pixels.
+/// Draws a mark for each column in which a request of tenant `t` was refused for lack of frames. The word `refused` beside the
+/// marks is moved down by `gap` pixels.
 fn draw_refusals<W: Write>(
     out: &mut W,
     columns: &[Column],
@@ -628,8 +628,8 @@ fn middle_of(column: usize, columns: usize) -> u32
     way.min(u64::from(WIDTH)) as u32
 }
 
-/// Draws the free frames of tenant `t`, upwards from the height `foot`, by the order of their free block. The greatest order is
-/// at the bottom.
+/// Draws the free frames of tenant `t` by the order of their free block, upwards from the y coordinate `foot`. The greatest order
+/// is at the bottom.
 fn draw_stack<W: Write>(out: &mut W, history: &History, t: u8, foot: u32) -> io::Result<()>
     ensures { WritesText result (W.contents out.old) (W.contents out.new) (IsStackText history.now t foot) }
 {
@@ -693,8 +693,8 @@ fn draw_scale<W: Write>(out: &mut W, top: u32, foot: u32, most: u64) -> io::Resu
     )
 }
 
-/// Draws the outline of a layer: a step to the new number in each column in which the number of free frames in blocks of this
-/// order and above changes.
+/// Draws the outline of a layer. Its height in a column is the number of free frames in blocks of this order and above. Each column
+/// in which this number changes begins with a step.
 fn draw_turns<W: Write>(out: &mut W, columns: &[Column], t: u8, order: usize) -> io::Result<()>
     requires { order < ORDERS }
     ensures { WritesText result (W.contents out.old) (W.contents out.new)
@@ -708,7 +708,7 @@ fn draw_turns<W: Write>(out: &mut W, columns: &[Column], t: u8, order: usize) ->
     Ok(())
 }
 
-/// Draws the numbers of lines below the height `foot`.
+/// Draws the axis of line numbers below the y coordinate `foot`.
 fn draw_lines_axis<W: Write>(out: &mut W, history: &History, foot: u32) -> io::Result<()>
     ensures { WritesText result (W.contents out.old) (W.contents out.new) (λ _. ⊤) }
 {
@@ -732,8 +732,8 @@ fn draw_lines_axis<W: Write>(out: &mut W, history: &History, foot: u32) -> io::R
     )
 }
 
-/// Returns the distance from the left edge of the first column to the end of the column that shows the machine after this number
-/// of lines.
+/// Returns how far this number of lines reaches from the left edge of the first column, if all lines of the columns have the same
+/// width.
 fn way_of(history: &History, line: u32) -> u32 {
     let lines = u64::from(history.width()).saturating_mul(history.columns().len() as u64);
     let way = (u64::from(line) * u64::from(WIDTH))
@@ -742,7 +742,7 @@ fn way_of(history: &History, line: u32) -> u32 {
     way.min(u64::from(WIDTH)) as u32
 }
 
-/// Returns the distance between the numbers on the lines' axis: a round number that gives at most ten steps.
+/// Returns the distance between the numbers on the axis of lines: 1, 2 or 5 times a power of ten, which gives at most ten steps.
 fn lines_step(lines: u32) -> u32 {
     let mut decade = 1u32;
     for _ in 0..9 {

@@ -3,7 +3,8 @@ use Rattle.frame_picture.specs.Kinds.{rank_of}
 use Rattle.frame_picture.specs.Rows.{row_cells}
 use Rattle.frame_picture.proofs.drawing.count_kinds.Given as goal
 
--- the counts are those of the listed sheets and of the sheets so far
+-- `counts` has the numbers of tenant t's cells in the sheets so far, by kind. `shown` is their total. Both hold only if the total
+-- is below 2 ^ 64.
 abbrev pub invariant-loop-sheet : goal.invariant-loop-sheet
 invariant-loop-sheet l = record {
   long : length l.counts ≡ 6;

@@ -1,7 +1,7 @@
 use Rattle.std.proofs.Common.{ℕ, ◌<◌, ◌≤◌, get_or}
 use Rattle.frame_picture.proofs.drawing.greatest_at.Given as goal
 
--- `greatest` is the index of the greatest count so far; if several are greatest, it is the first one's index
+-- `greatest` is the first index of the greatest count so far
 abbrev pub invariant-loop-at : goal.invariant-loop-at
 invariant-loop-at l =
     (l.greatest < l.at)

@@ -2,7 +2,7 @@ use Rattle.std.proofs.Common.{◌≡◌, ℕ, ◌<◌, ◌≤◌}
 use Rattle.frame_picture.specs.Rectangles.{run_in}
 use Rattle.frame_picture.proofs.rectangles.rectangle_at.Given as goal
 
--- the run is the same in all columns from this one to the end
+-- in each column from `column` to `end` - 1, the run at the row has `run` rows
 abbrev pub invariant-loop-column : goal.invariant-loop-column
 invariant-loop-column l = record {
   wide : l.column < l.end;

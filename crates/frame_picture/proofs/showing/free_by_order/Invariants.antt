@@ -2,7 +2,7 @@ use Rattle.std.proofs.Common.{◌≡◌, ℕ, ◌<◌, Some, length, slice_get, 
 use Rattle.model_core.specs.declared.report.OrderRow.{OrderRow}
 use Rattle.frame_picture.proofs.showing.free_by_order.Given as goal
 
--- the free blocks of the orders so far are stored
+-- the numbers of free blocks of the orders so far are stored in `free`
 abbrev pub invariant-loop-k : goal.invariant-loop-k
 invariant-loop-k l = record {
   long : length l.free ≡ 9;

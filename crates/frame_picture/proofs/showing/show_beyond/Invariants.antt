@@ -5,7 +5,7 @@ use Rattle.kernel_core.specs.Shows.{ShowsMachine}
 use Rattle.kernel_core.specs.declared.frames.FrameKind.{FrameKind}
 use Rattle.frame_picture.proofs.showing.show_beyond.Given as goal
 
--- the cells so far are stored
+-- the cells from `from` to k - 1 have the kinds of their frames, and the cells before `from` are unchanged
 abbrev pub invariant-loop-k : goal.invariant-loop-k
 invariant-loop-k l = record {
   kept : (j : ℕ) → j < l.from → slice_get l.cells j ≡ slice_get l.fn.cells j;

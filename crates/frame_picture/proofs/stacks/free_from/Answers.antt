@@ -2,7 +2,8 @@ use Rattle.std.proofs.Common.{◌≡◌, ℕ, zero, suc, ◌+◌, ◌*◌, ◌^�
 use Rattle.frame_picture.specs.Stacks.{frames_of_orders}
 use Rattle.frame_picture.proofs.stacks.free_from.Goals as goal
 
--- if `frames` is the number of frames in the free blocks of the orders below k, adding those of order k gives the number up to k
+-- if `frames` is the number of frames in free blocks of the orders from `order` to k - 1, adding the frames in free blocks of
+-- order k gives the number for the orders from `order` to k
 frames_more : (free : List ℕ) (order k frames : ℕ) → order ≤ k → ((n : ℕ) → k ≡ order + n → frames ≡ frames_of_orders free order n)
     → (n : ℕ) → k + 1 ≡ order + n → frames + slice_index free k * 2 ^ k ≡ frames_of_orders free order n
 frames_more free order k frames le before zero e = absurd (omega arith)

@@ -5,7 +5,7 @@ use Rattle.picture_svg.specs.Cells.{group_begin, AreKindPaths}
 use Rattle.picture_svg.specs.Texts.{AppendsText}
 use Rattle.picture_svg.proofs.svg.draw_rows.Given as goal
 
--- the paths of the kinds so far are drawn
+-- the beginning of the group and the paths of the kinds so far are drawn
 abbrev pub invariant-loop-kind : goal.invariant-loop-kind
 invariant-loop-kind g l = AppendsText (g.W.Write.contents l.fn.out) (g.W.Write.contents l.out)
     (λ text. (paths : List (List ℕ)) × AllZip (AreKindPaths l.columns l.grid) (take l.kind-index ALL) paths

@@ -5,7 +5,7 @@ use Rattle.frame_picture.specs.Slots.{IsAbove, HasSlot}
 use Rattle.frame_picture.proofs.SlotLemmas.{AnyBefore}
 use Rattle.frame_picture.proofs.grid.Grid.of.Given as goal
 
--- `slots` is the greatest slot of the tenant in the columns so far plus 1, and at least 1
+-- `slots` is 1 more than the greatest slot of tenant t in the columns so far, or 1 if the tenant has no slot in them
 abbrev pub invariant-loop-column : goal.invariant-loop-column
 invariant-loop-column l = record {
   few : l.slots ≤ 2 ^ 16;

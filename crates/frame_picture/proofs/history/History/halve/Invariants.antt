@@ -1,7 +1,7 @@
 use Rattle.std.proofs.Common.{◌≡◌, ℕ, ◌+◌, ◌*◌, ◌<◌, ◌≤◌, slice_get, vec_len}
 use Rattle.frame_picture.proofs.history.History.halve.Given as goal
 
--- each column so far is the second one of a pair, and the remaining columns are unchanged
+-- Each column j below i is the old column 2 * j + 1. The columns from 2 * i on are unchanged, and so are all other fields.
 abbrev pub invariant-loop-i : goal.invariant-loop-i
 invariant-loop-i l = record {
   lines : l.self.lines ≡ l.initial.self.lines;

@@ -117,7 +117,7 @@ loop-t-2-preserved g c =
           ));
     }
 
--- the parts of a picture, appended one after another, are joined as in the definition
+-- the parts of a picture, appended one after another, give the text in the definition of a picture
 ends : (opening title legend bands : List ℕ) → ((opening ++ (title ++ legend)) ++ bands) ++ codes "</svg>\n"
     ≡ opening ++ (title ++ (legend ++ (bands ++ codes "</svg>\n")))
 ends opening title legend bands = simp append_assoc

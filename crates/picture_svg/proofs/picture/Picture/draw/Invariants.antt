@@ -7,7 +7,7 @@ use Rattle.picture_svg.specs.Texts.{opening_text, title_text, AppendsText}
 use Rattle.picture_svg.proofs.PictureLemmas.{AreGrids}
 use Rattle.picture_svg.proofs.picture.Picture.draw.Given as goal
 
--- `height` is the height at which the bands of the tenants so far end
+-- `height` is the y coordinate at which the bands of the tenants so far end
 abbrev pub invariant-loop-t : goal.invariant-loop-t
 invariant-loop-t g l = record {
   same : l.self ≡ l.fn.self;
@@ -16,7 +16,7 @@ invariant-loop-t g l = record {
       × (l.height ≡ bottom_of HEAD (rows_of grids));
 }
 
--- the head and the bands so far are written
+-- the opening, the title, the legend and the bands of the tenants so far are written
 abbrev pub invariant-loop-t-2 : goal.invariant-loop-t-2
 invariant-loop-t-2 g l = record {
   same : IsSamePicture l.fn.self l.self;
