@@ -1,4 +1,4 @@
--- The meaning of a finding on a new machine, and what is shown of it.
+-- A finding on a new machine is sound, and its breach is shown.
 use Rattle.std.proofs.Common.{◌≡◌, ℕ, List, ◌++◌, Some, subst, sym}
 use Rattle.model_core.specs.declared.config.Config.{Config}
 use Rattle.model_core.specs.declared.limits.TheConstants.{MOST_CACHES}
@@ -24,7 +24,7 @@ pub finds : KeptIsAllowed → BrokenIsNotAllowed → (config : Config) (finding 
     → finding ≡ finding_of (opening_of config) asked told → IsFindingOf config finding asked told
 finds kept broken config finding asked told is = (is, sound kept broken config finding asked told is)
 
--- what holds for all texts that begin with what was read holds for the texts, if they are known
+-- a property of all texts that begin with the bytes that were read is a property of the trace and the replies, if these are known
 pub known_texts : {trace trace' replies replies' : Source} {asked told : List ℕ} (IsSo : List ℕ → List ℕ → Type 0) → HasGiven trace trace' asked
     → HasGiven replies replies' told → WhateverFollows trace' replies' asked told IsSo → (whole answers : List ℕ) → trace.left ≡ Some whole
     → replies.left ≡ Some answers → IsSo whole answers
@@ -33,7 +33,7 @@ known_texts {told = told} IsSo asks tells so whole answers whole_is answers_is =
     let (later, alike, might) = known_rest tells answers answers_is in
     subst (λ xs. IsSo whole xs) (sym alike) (subst (λ xs. IsSo xs (told ++ later)) (sym same) (so more later may might))
 
--- if the line and the reply stay the same, the finding is still shown
+-- if `shown` keeps its line and its reply, it still shows the finding
 pub still_shown : (w : Known) (finding : Finding) (asked told : List ℕ) (old new : Shown) → new.line ≡ old.line → new.reply ≡ old.reply
     → ShowsFinding w finding asked told old → ShowsFinding w finding asked told new
 still_shown w (Kept lines) asked told old new line_is reply_is shows = tt

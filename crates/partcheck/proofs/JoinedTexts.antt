@@ -1,4 +1,4 @@
--- One text written behind another.
+-- Texts that are written one after another.
 use Rattle.std.proofs.Common.{◌≡◌, List, ℕ, ◌++◌, Option, Result, Ok, Err, OnOk, subst}
 use Rattle.std.proofs.KnownBytes.{Appends-kept, Appends-trans}
 use Rattle.std.specs.Io.KnownBytes.{Appends, Keeps}
@@ -14,30 +14,30 @@ pub record HasText (old new : Option (List ℕ)) (text : List ℕ) : Type 0 wher
 pub first_text : (a b : Option (List ℕ)) (text : List ℕ) → Appends a b text → HasText a b text
 first_text a b text h = record { appended = h }
 
--- if another text is then appended, both are appended, one behind the other
+-- if `front` was appended and then `text`, `front ++ text` was appended
 pub then_text : {a b : Option (List ℕ)} {front : List ℕ} (c : Option (List ℕ)) (text : List ℕ) → HasText a b front → Appends b c text
     → HasText a c (front ++ text)
 then_text {a} {b} {front} c text first last = record { appended = Appends-trans a b c front text first.appended last }
 
--- the result of the last write is the result of all of them
+-- if `front` was appended and the last write succeeds with `text`, `whole` was appended, which is `front ++ text`
 pub last_text : {E : Type 0} {a b : Option (List ℕ)} {front : List ℕ} (c : Option (List ℕ)) (r : Result (Unit {0}) E) (text whole : List ℕ)
     → HasText a b front → OnOk r (Appends b c text) → front ++ text ≡ whole → OnOk r (Appends a c whole)
 last_text {E} {a} {b} {front} c (Ok x) text whole first last is = subst (Appends a c) is (Appends-trans a b c front text first.appended last)
 last_text c (Err e) text whole first last is = tt
 
--- the result of a single write
+-- if a single write succeeds with `text`, `whole` was appended, which is equal to `text`
 pub only_text : {E : Type 0} (a b : Option (List ℕ)) (r : Result (Unit {0}) E) (text whole : List ℕ) → OnOk r (Appends a b text) → text ≡ whole
     → OnOk r (Appends a b whole)
 only_text a b (Ok x) text whole appended is = subst (Appends a b) is appended
 only_text a b (Err e) text whole appended is = tt
 
--- if the success of a call implies a fact for each pair of texts, it implies the fact for all pairs
+-- if for each pair of texts the success of a call implies a fact, its success implies the fact for all pairs
 pub each_read : {E : Type 0} (r : Result (Unit {0}) E) (WasRead Is : List ℕ → List ℕ → Type 0)
     → ((asked told : List ℕ) → WasRead asked told → OnOk r (Is asked told)) → OnOk r ((asked told : List ℕ) → WasRead asked told → Is asked told)
 each_read (Ok x) WasRead Is each = each
 each_read (Err e) WasRead Is each = tt
 
--- the line of a finding stays appended if nothing more is written
+-- if the line of a finding was appended and the bytes are kept after that, the line is still appended
 finding_kept : (finding : Finding) (shown : Shown) (tenants : ℕ) (a b c : Option (List ℕ)) → AppendsFinding finding shown tenants a b → Keeps b c
     → AppendsFinding finding shown tenants a c
 finding_kept (Kept lines) shown tenants a b c appended kept = Appends-kept a b c (kept_text lines tenants) appended kept

@@ -1,4 +1,4 @@
--- From the values that clap found in the words to the settings.
+-- The settings and refusals of a parse are those of clap's model for the command line of `partcheck`.
 use Rattle.std.proofs.Common.{◌≡◌, ⊎_elim, ◌∙◌, List, [], Some, None, ap, inl, inr, refl, subst, sym, true, codes}
 use Rattle.clap.specs.Words.{App, Row, Text, fault_of, first_of, first_value, is_simple, is_simple_and_free, matches_of, one_of, one_text, rows_of, takes}
 use Rattle.clap.specs.declared.parser.matches.Found.{Found}
@@ -12,7 +12,7 @@ use Rattle.command_line.specs.declared.outcome.Outcome.{Outcome}
 use Rattle.partcheck.specs.Settings.{AsksCheck, IsCheckInOrder, IsNoCheck, IsNoFile, check_command_line, check_faults}
 use Rattle.partcheck.specs.declared.settings.Settings.{Settings}
 
--- clap's model covers this command line
+-- clap's model covers the command line of `partcheck`
 line_is_simple : is_simple check_command_line ≡ true
 unfolding clap_on_literals
 line_is_simple = refl
@@ -21,7 +21,7 @@ line_is_simple_and_free : is_simple_and_free check_command_line ≡ true
 unfolding clap_on_literals
 line_is_simple_and_free = refl
 
--- facts about a parse by a command that equals this command line are facts about a parse by this command line
+-- if a command equals the command line of `partcheck`, the rows of its matches are those that clap's model gives
 pub check_rows : {P : Type 0} (a : App) (f : Found) (words : List Text) → a ≡ check_command_line
     → (is_simple a ≡ true → (rows_of f ≡ matches_of a words) × P) → rows_of f ≡ matches_of check_command_line words
 check_rows a f words same found = rows_as check_command_line a f words line_is_simple same found
@@ -36,12 +36,12 @@ pub check_refused : (a : App) (words : List Text) (outcome : Outcome) → a ≡ 
 unfolding check_faults
 check_refused a words outcome same refused = refused_as check_command_line a words outcome line_is_simple_and_free same refused
 
--- if a command equals this command line, it takes the words that this one takes
+-- if a command equals the command line of `partcheck`, it takes all words that clap's model takes
 pub check_taken : (a : App) (words : List Text) → a ≡ check_command_line → IsCheckInOrder words → takes a words ≡ true
 unfolding IsCheckInOrder
 check_taken a words same taken = subst (λ b. takes b words ≡ true) (sym same) taken
 
--- the value of a file's argument in the matches is the one in their rows
+-- the first value of an argument in the matches is its first value in their rows
 first-of_rows : (f : Found) (rows : List Row) → rows_of f ≡ rows → (name : Text) → first_value f name ≡ first_of name rows
 first-of_rows f rows same name = first_value-rows f name ∙ ap (first_of name) same
 
@@ -53,7 +53,7 @@ asks_rows f rows s same asks = record {
   replies = sym (first-of_rows f rows same (codes "REPLIES")) ∙ asks.replies;
 }
 
--- if the matches give no sizes, neither do their rows
+-- if the matches give no valid sizes, their rows give no settings
 pub no_sizes_rows : (f : Found) (rows : List Row) (outcome : Outcome) → rows_of f ≡ rows → AsksNoSizes (one_text f) → IsBadLine bad_size_text outcome
     → IsNoCheck (λ name. one_of name rows) (λ name. first_of name rows) outcome
 no_sizes_rows f rows outcome same none said =
@@ -71,13 +71,13 @@ pub no_replies_rows : (f : Found) (rows : List Row) (outcome : Outcome) → rows
     → IsNoCheck (λ name. one_of name rows) (λ name. first_of name rows) outcome
 no_replies_rows f rows outcome same none = inr (inr (no_file_rows f rows (codes "REPLIES") outcome same none))
 
--- sizes that the rows request are found in the matches
+-- if the rows request settings, the matches give valid sizes
 pub sizes_given : (f : Found) (rows : List Row) (s : Settings) → rows_of f ≡ rows
     → AsksCheck (λ name. one_of name rows) (λ name. first_of name rows) s → AsksNoSizes (one_text f) → ⊥
 sizes_given f rows s same asks none =
     none s.config (asks_sizes (λ name. one_of name rows) (one_text f) s.config (λ name. sym (one_text-of_rows f rows same name)) asks.sizes) s.bootable
 
--- a file that is named is found, unless memory runs out for its name
+-- if the rows have a value for the argument of a file, its path is refused only if memory runs out
 file_given : (f : Found) (rows : List Row) (name path : Text) (outcome : Outcome) → rows_of f ≡ rows → first_of name rows ≡ Some path
     → IsNoFile (first_value f name) outcome → outcome ≡ Outcome.NoMemory
 file_given f rows name path outcome same named none =

@@ -1,4 +1,4 @@
--- How a check ends, and what its finding means for two texts.
+-- The exit status of a check, and the meaning of its finding for a trace and replies.
 use Rattle.std.specs.Prelude.{◌≡◌, ℕ, List, None}
 use Rattle.model_core.specs.declared.config.Config.{Config}
 use Rattle.model_core.specs.declared.limits.TheConstants.{MOST_CACHES}
@@ -24,15 +24,15 @@ status_of_check Checked.Unwritten = 1
 abbrev pub opening_of : Config → Known
 opening_of config = opening MOST_CACHES config.order config.superblocks config.tenants
 
--- if the finding is kept, the replies are the text of allowed replies to the trace's events; if it is broken, no reply that
--- begins at the breach is allowed
+-- If the finding is `Kept`, the replies are the text of allowed replies to the trace's events. If it is `Broken`, the replies
+-- before the breach are allowed, and no reply that begins at the breach is allowed.
 abbrev pub IsSoundFinding : Config → Finding → (trace replies : List ℕ) → Type 0
 IsSoundFinding config (Finding.Kept lines) trace replies =
     IsAllowedText None MOST_CACHES config.order config.superblocks config.tenants (lines_of_trace trace) replies
 IsSoundFinding config (Finding.Broken breach) trace replies =
     IsBreach MOST_CACHES config.order config.superblocks config.tenants (lines_of_trace trace) replies breach
 
--- this is the finding for these texts, and it has its meaning
+-- this is the finding for the trace and the replies, and what it means is true of them
 abbrev pub IsFindingOf : Config → Finding → (trace replies : List ℕ) → Type 0
 IsFindingOf config finding trace replies =
     (finding ≡ finding_of (opening_of config) trace replies) × IsSoundFinding config finding trace replies

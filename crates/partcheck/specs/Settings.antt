@@ -1,4 +1,4 @@
--- What a command line requests: which word belongs to which name, in clap's terms.
+-- The settings that a command line of `partcheck` requests, in terms of clap's model.
 use Rattle.std.specs.Prelude.{◌≡◌, ◌⊎◌, true, if◌then◌else◌, List, [], Option, Some, None, codes, unwrap_or}
 use Rattle.std.specs.Str.{bytes_eq}
 use Rattle.std.specs.String.{string_bytes}
@@ -10,23 +10,24 @@ use Rattle.command_line.specs.declared.outcome.Outcome.{Outcome}
 use Rattle.partcheck.specs.declared.settings.Settings.{Settings}
 use Rattle.check_core.specs.declared.finding.Unchecked.{Unchecked}
 
--- the path of the trace; `-` is standard input
+-- the path of the trace; None if it is `-`, which means standard input
 abbrev pub trace_file : Settings → Option Text
 trace_file settings = if bytes_eq (string_bytes settings.trace) (codes "-") then None else Some (string_bytes settings.trace)
 
--- the name of the file that could not be read when a check ended for this reason
+-- the name of the file that could not be read, if a check ended for this reason; for `Memory` it is the name of the trace
 abbrev pub file_without : Settings → Unchecked → Text
 file_without settings Unchecked.Replies = string_bytes settings.replies
 file_without settings Unchecked.Trace = unwrap_or (trace_file settings) (codes "standard input")
 file_without settings Unchecked.Memory = unwrap_or (trace_file settings) (codes "standard input")
 
--- the settings are the values of the arguments: `read` returns those that are read as a type, `whole` the paths of files
+-- The settings are the values of the arguments. `read` returns the text of a size by the argument's name, and `whole` returns the
+-- path of a file.
 pub record AsksCheck (read whole : Text → Option Text) (settings : Settings) : Type 0 where
   pub sizes : AsksSizes read settings.config
   pub trace : whole (codes "TRACE") ≡ Some (string_bytes settings.trace)
   pub replies : whole (codes "REPLIES") ≡ Some (string_bytes settings.replies)
 
--- a required file
+-- the rule of an argument that is a required file
 abbrev pub file_rule : Text → Rule
 file_rule name = record (positional_rule name) { required = true }
 
@@ -43,12 +44,12 @@ IsCheckRequestedBy words settings = let rows = matches_of check_command_line wor
 unfoldable pub IsCheckInOrder : List Text → Type 0
 IsCheckInOrder words = takes check_command_line words ≡ true
 
--- why there is no path of a file: it is not named, or memory runs out for its name
+-- why the path of a file is not found: the argument is missing, or memory runs out
 abbrev pub IsNoFile : Option Text → Outcome → Type 0
 IsNoFile path outcome =
     ((path ≡ None) × IsBadLine (codes "error: TRACE and REPLIES are required\n") outcome) ⊎ (outcome ≡ Outcome.NoMemory)
 
--- why the values of the arguments are not settings: a size is faulty, or there is no path of a file
+-- why the values of the arguments give no settings: a size is missing or out of its range, or the path of a file is not found
 abbrev pub IsNoCheck : (read whole : Text → Option Text) → Outcome → Type 0
 IsNoCheck read whole outcome =
     (AsksNoSizes read × IsBadLine bad_size_text outcome) ⊎ IsNoFile (whole (codes "TRACE")) outcome ⊎ IsNoFile (whole (codes "REPLIES")) outcome
@@ -57,7 +58,7 @@ IsNoCheck read whole outcome =
 unfoldable pub check_faults : List Text → Kinds
 check_faults words = fault_of check_command_line words
 
--- why these words are refused: clap's model refuses them, or it takes them and they name no settings
+-- why these words are refused: clap's model refuses them, or it takes them but their values give no settings
 abbrev pub IsCheckRefusedFor : List Text → Outcome → Type 0
 IsCheckRefusedFor words outcome = let rows = matches_of check_command_line words in
     IsRefusedBy (check_faults words) outcome

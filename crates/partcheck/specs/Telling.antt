@@ -1,4 +1,4 @@
--- The line of a finding. A plain text is shown as it is, and any other text in quotes.
+-- The line that is printed for a finding. It shows a plain text as it is, and any other text in quotes.
 use Rattle.std.specs.Prelude.{ℕ, ◌-◌, ◌==◌, ◌||◌, ◌&&◌, Bool, not, nat_le, nat_lt, if◌then◌else◌, List, [], ◌∷◌, ◌++◌, Option, Some, None, codes, decimal, flat_map, length, slice_index, take}
 use Rattle.std.specs.Char.Escape.{escape_ascii}
 use Rattle.std.specs.Io.KnownBytes.{Appends}
@@ -15,7 +15,7 @@ use Rattle.check_core.specs.declared.shown.Shown.{Shown}
 use Rattle.check_core.specs.declared.shown.TheConstants.{MOST_PART_BYTES, MOST_TEXT_BYTES}
 use Rattle.check_core.specs.declared.taken.TakenFrame.{TakenFrame}
 
--- the word for one thing, or for several
+-- the word `one` if the count is 1, and otherwise the word `several`
 abbrev pub counted_word : (one several : List ℕ) → ℕ → List ℕ
 counted_word one several count = if count == 1 then one else several
 
@@ -37,20 +37,21 @@ has_filled_ends text = nat_lt 0 (length text) && not (slice_index text 0 == 32) 
 abbrev pub is_plain_text : List ℕ → Bool
 is_plain_text text = has_filled_ends text && list_all is_reply_byte text
 
--- a byte of a plain text, as it is shown: a line feed between two lines becomes ` / `
+-- what is shown for a byte of a plain text: ` / ` for a line feed, and otherwise the byte
 abbrev pub plain_byte : ℕ → List ℕ
 plain_byte byte = if byte == 10 then codes " / " else byte ∷ []
 
--- the text is plain, and differs from the words that stand for a missing text
+-- the text is plain, and differs from `none`, the words that are shown if there is no text
 abbrev pub is_shown_plain : (none text : List ℕ) → Bool
 is_shown_plain none text = is_plain_text text && not (bytes_eq text none)
 
--- the beginning of a text as it is shown: in quotes and escaped if the text is not plain or equals the words for a missing text
+-- What is shown for `begin`, the beginning of a text. It is escaped and in quotes if the text is not plain, or if the text equals
+-- `none`.
 unfoldable pub begin_text : (none text begin : List ℕ) → List ℕ
 begin_text none text begin = if is_shown_plain none text then flat_map plain_byte begin
     else codes "'" ++ (flat_map escape_ascii begin ++ codes "'")
 
--- the mark at the end of a text that is cut: `…`
+-- the mark at the end of a shown text: `…` if the text is cut, and nothing otherwise
 abbrev pub cut_mark : Bool → List ℕ
 cut_mark is_cut = if is_cut then 226 ∷ 128 ∷ 166 ∷ [] else []
 
@@ -58,7 +59,7 @@ cut_mark is_cut = if is_cut then 226 ∷ 128 ∷ 166 ∷ [] else []
 unfoldable pub excerpt_of : (none : List ℕ) → (most : ℕ) → (text : List ℕ) → List ℕ
 excerpt_of none most text = begin_text none text (take most text) ++ cut_mark (nat_lt most (length text))
 
--- the first bytes of the text, at most `most`, or the words for a missing text
+-- the first bytes of the text, at most `most`, or `none` if there is no text
 abbrev pub excerpt_text : (none : List ℕ) → (most : ℕ) → Option (List ℕ) → List ℕ
 excerpt_text none most None = none
 excerpt_text none most (Some text) = excerpt_of none most text
@@ -72,7 +73,7 @@ abbrev pub if_read : (List ℕ → List ℕ) → List ℕ → Option (List ℕ)
 if_read cut [] = None
 if_read cut (byte ∷ bytes) = Some (cut (byte ∷ bytes))
 
--- what a promise requires
+-- the words for what a promise requires
 abbrev pub words_of_promise : Promise → List ℕ
 words_of_promise Promise.Form = codes "a reply has the right addressee, and is a refusal or an answer to that command"
 words_of_promise Promise.Refusals = codes "the first refusal whose condition holds is the reply, and no other refusal comes"
@@ -87,17 +88,17 @@ words_of_promise Promise.Bytes = codes "a byte that is read is the one that was 
 words_of_promise Promise.Report = codes "a report has the tenant's own figures"
 words_of_promise Promise.Still = codes "the figures of a report stay valid until a command changes something"
 
--- the words for the first frame that two page blocks share, and for the live one of them
+-- the words that name the first frame that two page blocks share, and the live one of these two blocks
 abbrev pub taken_text : TakenFrame → List ℕ
 taken_text taken = codes "frame " ++ (decimal taken.frame ++ (codes " lies in the block of order " ++ (decimal taken.page.order
     ++ (codes " at frame " ++ decimal taken.page.first))))
 
--- why the promise Blocks is broken: the block in the way, if one was found
+-- why the promise Blocks is broken: the live page block in the way, if one was found, or else what the promise requires
 abbrev pub blocks_text : Option TakenFrame → List ℕ
 blocks_text None = words_of_promise Promise.Blocks
 blocks_text (Some taken) = taken_text taken
 
--- why a promise is broken: for Blocks the block in the way, if one was found, or else what the promise requires
+-- why a promise is broken: for Blocks the live page block in the way, if one was found, or else what the promise requires
 abbrev pub reason_text : Promise → Option TakenFrame → List ℕ
 reason_text Promise.Blocks taken = blocks_text taken
 reason_text Promise.Form taken = words_of_promise Promise.Form
@@ -112,14 +113,14 @@ reason_text Promise.Bytes taken = words_of_promise Promise.Bytes
 reason_text Promise.Report taken = words_of_promise Promise.Report
 reason_text Promise.Still taken = words_of_promise Promise.Still
 
--- the line if a reply is not allowed; it shows at most 255 bytes of the trace's line, and at most 200 of the reply
+-- the line if a reply is not allowed; it shows at most 255 bytes of the line of the trace, and at most 200 bytes of the reply
 unfoldable pub breach_text : Breach → (asked told : List ℕ) → Option TakenFrame → List ℕ
 breach_text breach asked told taken = concat (codes "line " ∷ decimal breach.line ∷ codes ", reply " ∷ decimal breach.reply ∷ codes ": "
     ∷ excerpt_text (codes "no more lines") 255 (if_read trace_line (take MOST_PART_BYTES asked)) ∷ codes ", answered "
     ∷ excerpt_text (codes "nothing") 200 (if_read without_line_feed (take MOST_TEXT_BYTES told)) ∷ codes ": " ∷ name_of_promise breach.promise ∷ codes ": "
     ∷ reason_text breach.promise taken ∷ codes "\n" ∷ [])
 
--- the line of a finding was written; for a breach it shows the last line and reply that were read
+-- the line of a finding was written; for a breach it shows the line and the reply that `shown` has
 abbrev pub AppendsFinding : Finding → Shown → (tenants : ℕ) → (old new : Option (List ℕ)) → Type 0
 AppendsFinding (Finding.Kept lines) shown tenants old new = Appends old new (kept_text lines tenants)
 AppendsFinding (Finding.Broken breach) shown tenants old new =

@@ -12,19 +12,19 @@ use std::process::ExitCode;
 /// How a check ended.
 #[derive(Clone, Copy, Debug)]
 pub enum Checked {
-    /// With a finding, which was written to the output.
+    /// There is a finding, and it was written to the output.
     Found(Finding),
-    /// Without a finding. If a file could not be opened or read, the error says why.
+    /// There is no finding. If a file could not be opened or read, the error says why.
     Failed(Unchecked, Option<FileError>),
-    /// With a finding that could not be written.
+    /// There is a finding, but it could not be written.
     Unwritten,
 }
 
 /// The exit status if a reply breaks a promise.
 const BROKEN: u8 = 4;
 
-/// Prints on standard error why there is no finding, if there is none, and which file could not be opened or read. Returns the
-/// exit status: 0 if every reply is allowed, 4 if one is not, or else the status of the error.
+/// If no finding was written, prints the reason on standard error, and the name of a file that could not be opened or read.
+/// Returns the exit status: 0 if every reply is allowed, 4 if a reply is not allowed, or else the status of the error.
 pub fn tell_checked(rt: &impl Eprint, settings: &Settings, checked: Checked) -> ExitCode
     ensures { exit_status result ≡ status_of_check checked }
 {
@@ -35,7 +35,7 @@ pub fn tell_checked(rt: &impl Eprint, settings: &Settings, checked: Checked) -> 
     code
 }
 
-/// Prints on standard error why there is no finding, if there is none. Returns the exit status.
+/// If no finding was written, prints the reason on standard error. Returns the exit status.
 fn tell_status(rt: &impl Eprint, checked: Checked) -> ExitCode
     ensures { exit_status result ≡ status_of_check checked }
 {

@@ -66,7 +66,7 @@ fn read_command_line(rt: &(impl Env + AllocGlobal)) -> Result<Settings, Outcome>
     read_words(rt.alloc(), texts.as_slice())
 }
 
-/// Checks the files, and writes the finding to standard output.
+/// Checks the replies to the trace, and writes the finding to standard output.
 fn check_files<P: Eprint + Clock>(
     rt: &(impl Files + Input + Print + AllocGlobal),
     settings: &Settings,
@@ -85,7 +85,8 @@ fn check_files<P: Eprint + Clock>(
     }
 }
 
-/// Checks the trace TRACE, which is a file or standard input. Files and standard input each have their own copy of the loop.
+/// Checks the replies to the trace TRACE, which is a file or standard input. The check is compiled once for files and once for
+/// standard input.
 fn find<P: Eprint + Clock>(
     rt: &(impl Files + Input + AllocGlobal),
     settings: &Settings,
@@ -102,7 +103,7 @@ fn find<P: Eprint + Clock>(
     }
 }
 
-/// Checks a reader's trace against the file REPLIES. Both may have any length.
+/// Checks the replies in the file REPLIES to the trace of a reader. Both may have any length.
 fn find_beside<R: Read + Drop>(
     rt: &(impl Files + AllocGlobal),
     settings: &Settings,

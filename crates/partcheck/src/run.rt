@@ -13,8 +13,9 @@ use std::alloc::Global;
 use std::mem;
 use streams::Feed;
 
-/// Checks the replies to a trace on a machine of these sizes, where no superblock is granted yet. Returns `Err` if the trace or
-/// the replies cannot be read, or if memory runs out. At the end `shown` holds the line and the reply, as after [`check`].
+/// Checks the replies to a trace on a machine of these sizes, in which no superblock is granted at first. Returns `Err` if the
+/// trace or the replies cannot be read, or if memory runs out. If a reply is not allowed, `shown` has the line and the reply, as
+/// after [`check`], and a live page block that overlaps the page block of the reply, if there is one.
 pub fn run<T: Feed, R: Feed>(
     alloc: Global,
     config: Config,
@@ -25,16 +26,17 @@ pub fn run<T: Feed, R: Feed>(
     requires bootable { is_bootable config ≡ true }
     requires trace_fine { trace.old.failed ≡ false }
     requires replies_fine { replies.old.failed ≡ false }
-    // `asked` and `told` are what was read of the trace and of the replies. All texts that begin so have this finding, with its
-    // meaning, and its breach is shown.
+    // `asked` are the bytes that were read of the trace, and `told` those of the replies. The finding is true of all texts that
+    // begin with these bytes. If it is a breach, `shown` has its line and its reply.
     ensures found { (asked : List ℕ) × (told : List ℕ) × HasGiven trace.old trace.new asked × HasGiven replies.old replies.new told
         × IfOk result (λ finding. WhateverFollows trace.new replies.new asked told (IsFindingOf config finding))
         × IfOk result (λ finding. ShowsFinding (opening_of config) finding asked told shown.new) }
     ensures kept { IfOk result (λ finding. IsKeptAtEnd finding trace.new replies.new) }
-    // If the two texts are known, the finding is the one for these texts.
+    // If the texts of the trace and of the replies are known, the finding is true of them.
     ensures known { (asked told : List ℕ) → trace.old.left ≡ Some asked → replies.old.left ≡ Some told
         → IfOk result (λ finding. IsFindingOf config finding asked told) }
-    // Memory runs out only before the first line, or if an allowed reply adds something and no promise was broken before it.
+    // Memory runs out only before anything is read, or at a reply that adds something to what is known. This reply and all
+    // replies before it are allowed.
     ensures end { IsEndedBy result trace.new.failed replies.new.failed (((trace.new ≡ trace.old) × (replies.new ≡ replies.old))
         ⊎ ((asked : List ℕ) × (told : List ℕ) × HasGiven trace.old trace.new asked × HasGiven replies.old replies.new told
         × WhateverFollows trace.new replies.new asked told

@@ -16,7 +16,7 @@ pub const PROGRAM: Program<'static> = Program {
     unwritten: "finding could not be written",
 };
 
-/// The same as [`PROGRAM`], for a run in which the replies cannot be read.
+/// [`PROGRAM`], with the message of a run in which the replies cannot be read.
 pub const REPLIES_PROGRAM: Program<'static> = Program {
     unread: "replies could not be read",
     ..PROGRAM
@@ -73,7 +73,8 @@ impl Settings {
         }
     }
 
-    /// Returns the name of the file that could not be read when a check ended for this reason.
+    /// Returns the name of the file that could not be read, if a check ended for this reason. For `Memory` it is the name of the
+    /// trace.
     pub fn name_of(&self, why: Unchecked) -> &str
         ensures { result.now ≡ file_without self.now why }
     {

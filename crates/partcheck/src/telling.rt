@@ -171,9 +171,9 @@ fn front(text: &[u8], most: usize) -> &[u8]
     &text[..most.min(text.len())]
 }
 
-/// Writes the beginning of a text. The lines of a plain text are joined by ` / `. A text is escaped and in quotes if it is not
-/// plain, or if it equals `none`, the words that stand for a missing text. So no text looks like these words or like a finding,
-/// and two texts look alike only if both are cut.
+/// Writes `begin`, the beginning of a text. The lines of a plain text are joined by ` / `. A text is escaped and in quotes if it
+/// is not plain, or if it equals `none`, the words that are shown if there is no text. So no text looks like these words or like
+/// a finding, and two texts look alike only if both are cut.
 fn write_begin<W: Write>(out: &mut W, text: &[u8], begin: &[u8], none: &str) -> io::Result<()>
     ensures { OnOk result (Appends (W.contents out.old) (W.contents out.new) (begin_text none.now text.now begin.now)) }
 {
@@ -185,7 +185,7 @@ fn write_begin<W: Write>(out: &mut W, text: &[u8], begin: &[u8], none: &str) -> 
     out.write_all(b"'")
 }
 
-/// Returns whether a text is plain and differs from `none`, the words that stand for a missing text.
+/// Returns whether a text is plain and differs from `none`, the words that are shown if there is no text.
 fn is_shown_plain(text: &[u8], none: &str) -> bool
     ensures { result ≡ is_shown_plain none.now text.now }
 {

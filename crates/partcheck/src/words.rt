@@ -11,11 +11,11 @@ use clap::{ArgMatches, Command};
 use command_line::{Outcome, parse, path_of, positional, sizes_command, sizes_found};
 use std::alloc::{AllocError, Global};
 
-/// Reads the words of a command line, without the program's name.
+/// Returns the settings that the words of a command line request. The words do not include the program's name.
 ///
-/// Returns `Help` or `Version` if the words request that, `BadLine` if they are faulty, or `NoMemory`.
+/// Fails with `Help` or `Version` if the words request one of them, with `BadLine` if they are faulty, or with `NoMemory`.
 pub fn read_words<'a>(alloc: Global, words: &'a [&'a str]) -> Result<Settings, Outcome>
-    // Clap's model says which word belongs to which name.
+    // Clap's model says which word is the value of which argument.
     ensures asked { IfOk result (IsCheckRequestedBy (map (λ word. word.now) words.entry.now)) }
     ensures refused { IfErr result (IsCheckRefusedFor (map (λ word. word.now) words.entry.now)) }
     // Words that request settings are refused only if memory runs out.
@@ -32,7 +32,7 @@ pub fn read_words<'a>(alloc: Global, words: &'a [&'a str]) -> Result<Settings, O
 
 /// Returns the path in the argument with this name, as it was written.
 ///
-/// Returns `BadLine` if there is none, or `NoMemory`.
+/// Fails with `BadLine` if the argument is missing, or with `NoMemory`.
 fn required_path(alloc: Global, matches: &ArgMatches<'_>, name: &str) -> Result<String, Outcome>
     ensures path { IfOk result (λ path. first_value (found_of matches.now) name.now ≡ Some (string_bytes path)) }
     ensures refused { IfErr result (IsNoFile (first_value (found_of matches.now) name.now)) }
@@ -46,7 +46,7 @@ fn required_path(alloc: Global, matches: &ArgMatches<'_>, name: &str) -> Result<
     }
 }
 
-/// Returns the program's command line: its arguments, with their ranges.
+/// Returns the command that the program parses: the sizes with their ranges, and the arguments TRACE and REPLIES.
 fn command<'a>(alloc: Global) -> Result<Command<'a>, AllocError>
     ensures { IfOk result (λ command. app_of command ≡ check_command_line) }
 {

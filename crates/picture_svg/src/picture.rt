@@ -29,8 +29,8 @@ pub struct Picture {
 }
 
 impl Picture {
-    /// Returns a picture with a band for tenant `only`, or for every tenant if `only` is `None`. It has cells for as many columns as
-    /// this history can have. Fails if memory runs out.
+    /// Returns a picture with a band for tenant `only`, or for every tenant if `only` is `None`. It has cells for as many columns
+    /// as this history can have. Fails if memory runs out.
     pub fn new(alloc: Global, history: &History, only: Option<u8>) -> Result<Picture, AllocError>
         ensures one { IfOk result (λ picture. IfSome only
             (λ t. (first_tenant picture ≡ t) × (end_of_tenants picture ≡ min (t + 1) u8.MAX))) }
@@ -51,15 +51,15 @@ impl Picture {
         })
     }
 
-    /// Moves the word `refused` down by this number of pixels, so that it does not overlap the lowest number of the axis above it.
+    /// Moves the word `refused` down by this number of pixels, so that it does not overlap the lowest number of the axis.
     pub fn set_label_gap(&mut self, pixels: u32)
         ensures { self.new ≡ record self.old { label_gap = pixels } }
     {
         self.label_gap = pixels;
     }
 
-    /// Draws the frames of a history, with the name of its trace, and flushes. If the history has more columns than the picture has
-    /// cells for, only the first columns are drawn. Fails if the writer fails.
+    /// Draws the frames of a history, with the name of its trace, and flushes. If the history has more columns than the picture
+    /// has cells for, only the first columns are drawn. Fails if the writer fails.
     pub fn draw<W: Write>(
         &mut self,
         history: &History,

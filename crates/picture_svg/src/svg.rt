@@ -38,7 +38,7 @@ const ABOVE: u32 = 26;
 
 const BELOW: u32 = 132;
 
-/// The height of the stack of free frames below the rows of a band, and the distance of its foot from the rows, less this height.
+/// The height of the stack of free frames below the rows of a band, and the distance of its top from the rows.
 const STACK: u32 = 56;
 
 const STACK_TOP: u32 = 36;
@@ -260,8 +260,8 @@ fn write_escaped<W: Write>(out: &mut W, name: &[u8]) -> io::Result<()>
     Ok(())
 }
 
-/// Draws the band of tenant `t` with these columns of cells, from the y coordinate `top` down. The word `refused` beside the marks
-/// of refusals is moved down by `gap` pixels.
+/// Draws the band of tenant `t` with these columns of cells, from the y coordinate `top` down. The word `refused` beside the
+/// marks of refusals is moved down by `gap` pixels.
 pub fn draw_band<W: Write>(
     out: &mut W,
     history: &History,
@@ -693,8 +693,8 @@ fn draw_scale<W: Write>(out: &mut W, top: u32, foot: u32, most: u64) -> io::Resu
     )
 }
 
-/// Draws the outline of a layer. Its height in a column is the number of free frames in blocks of this order and above. Each column
-/// in which this number changes begins with a step.
+/// Draws the outline of a layer. Its height in a column is the number of free frames in blocks of this order and above. Each
+/// column in which this number changes begins with a step.
 fn draw_turns<W: Write>(out: &mut W, columns: &[Column], t: u8, order: usize) -> io::Result<()>
     requires { order < ORDERS }
     ensures { WritesText result (W.contents out.old) (W.contents out.new)

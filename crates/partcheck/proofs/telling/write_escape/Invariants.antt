@@ -4,7 +4,7 @@ use Rattle.std.specs.Char.Iter.{escape_byte_rest, escape_byte_left, escape_byte_
 use Rattle.std.specs.Io.KnownBytes.{Appends}
 use Rattle.partcheck.proofs.telling.write_escape.Given as goal
 
--- what has been written and what is left are the escape of the byte
+-- the bytes that were written, followed by the bytes that are left, are the escape of the byte
 abbrev pub invariant-escape : goal.invariant-escape
 invariant-escape g l = (escape_byte_end l.rest ≤ 4) × ((done : List ℕ) × Appends (g.W.Write.contents l.fn.out) (g.W.Write.contents l.out) done
     × (done ++ escape_byte_rest l.rest ≡ escape_ascii l.byte))

@@ -15,7 +15,7 @@ returns-clause-asked c =
     asks_rows found (matches_of check_command_line words) _ rows
     (record { sizes = c.in_ok-sizes_found.ensures.asked; trace = c.in_ok-required_path.ensures.path; replies = c.in_ok-required_path-2.ensures.path })
 
--- what holds of an error also holds of the result that passes it on
+-- if a result has the error e, and Q holds for e, then Q holds for the error of the result
 passed : (r : Result Settings Outcome) (e : Outcome) (Q : Outcome → Type 0) → IsErrAnd r (λ o. o ≡ e) → Q e → IfErr r Q
 passed (Ok settings) e Q is fact = tt
 passed (Err outcome) e Q is fact = subst Q (sym is) fact

@@ -4,7 +4,7 @@ use Rattle.picture_svg.specs.Cells.{is_drawn, shade_of, IsTonePath}
 use Rattle.picture_svg.specs.Texts.{AppendsText}
 use Rattle.picture_svg.proofs.svg.draw_shades.Given as goal
 
--- the paths of those shades so far that are drawn at all are written
+-- the paths of the drawn shades among the shades so far are written
 abbrev pub invariant-loop-shade : goal.invariant-loop-shade
 invariant-loop-shade g l = AppendsText (g.W.Write.contents l.fn.out) (g.W.Write.contents l.out)
     (λ text. (paths : List (List ℕ))
