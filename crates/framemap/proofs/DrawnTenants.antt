@@ -1,10 +1,11 @@
--- The tenants that are drawn.
+-- A picture draws exactly the requested tenants.
 use Rattle.std.proofs.Common.{◌≡◌, ℕ, ◌+◌, ◌<◌, ◌≤◌, min, Option, Some, None, IfSome, IfNone, refl, arith}
 use Rattle.std.specs.Option.{ForSome}
 use Rattle.kernel_core.specs.Content.{opening_content}
 use Rattle.framemap.specs.Drawing.{end_drawn, first_drawn}
 
--- a picture of the requested tenant, or of all tenants, draws the tenants from `first_drawn` to `end_drawn` - 1
+-- if the requested tenant exists, a picture of this tenant, or of all tenants if none is requested, draws the tenants from
+-- `first_drawn` to `end_drawn` - 1
 pub drawn_is : (only : Option ℕ) (first end tenants : ℕ) → IfSome only (λ t. (first ≡ t) × (end ≡ min (t + 1) 255))
     → IfNone only ((first ≡ 0) × (end ≡ tenants)) → ForSome only (λ t. t < tenants) → tenants ≤ 64
     → (first ≡ first_drawn only) × (end ≡ end_drawn tenants only)

@@ -1,4 +1,4 @@
--- From what clap found in the words to the settings.
+-- The settings and refusals of a parse are those of clap's model for the command line of `framemap`.
 use Rattle.std.proofs.Common.{◌≡◌, ◌∙◌, List, [], ap, subst, sym, true, refl, codes}
 use Rattle.clap.specs.Words.{App, Row, Text, fault_of, first_of, first_value, is_simple, is_simple_and_free, matches_of, one_of, one_text, rows_of, takes}
 use Rattle.clap.specs.declared.parser.matches.Found.{Found}
@@ -13,7 +13,7 @@ use Rattle.command_line.specs.declared.outcome.Outcome.{Outcome}
 use Rattle.framemap.specs.Settings.{AreColumns, AsksMap, IsMapInOrder, map_command_line, map_faults}
 use Rattle.framemap.specs.declared.settings.Settings.{Settings}
 
--- clap's model gives the matches of framemap's command line
+-- clap's model covers the command line of `framemap`
 line_is_simple : is_simple map_command_line ≡ true
 unfolding clap_on_literals
 line_is_simple = refl
@@ -22,7 +22,7 @@ line_is_simple_and_free : is_simple_and_free map_command_line ≡ true
 unfolding clap_on_literals
 line_is_simple_and_free = refl
 
--- if a command is framemap's command line, the rows of its matches are those that clap's model gives
+-- if a command equals the command line of `framemap`, the rows of its matches are those that clap's model gives
 pub map_rows : {P : Type 0} (a : App) (f : Found) (words : List Text) → a ≡ map_command_line
     → (is_simple a ≡ true → (rows_of f ≡ matches_of a words) × P) → rows_of f ≡ matches_of map_command_line words
 map_rows a f words same found = rows_as map_command_line a f words line_is_simple same found
@@ -37,12 +37,12 @@ pub map_refused : (a : App) (words : List Text) (outcome : Outcome) → a ≡ ma
 unfolding map_faults
 map_refused a words outcome same refused = refused_as map_command_line a words outcome line_is_simple_and_free same refused
 
--- if a command is framemap's command line, it takes the words that clap's model takes
+-- if a command equals the command line of `framemap`, it takes all words that clap's model takes
 pub map_taken : (a : App) (words : List Text) → a ≡ map_command_line → IsMapInOrder words → takes a words ≡ true
 unfolding IsMapInOrder
 map_taken a words same taken = subst (λ b. takes b words ≡ true) (sym same) taken
 
--- if the matches request settings, so do their rows
+-- if the matches request settings, their rows request the same settings
 pub asks_rows : (f : Found) (rows : List Row) (s : Settings) → rows_of f ≡ rows → AsksMap (one_text f) (first_value f) s
     → AsksMap (λ name. one_of name rows) (λ name. first_of name rows) s
 asks_rows f rows s same asks = record {
@@ -52,7 +52,7 @@ asks_rows f rows s same asks = record {
   file = asks.file ∙ first_value-rows f (codes "FILE") ∙ ap (first_of (codes "FILE")) same;
 }
 
--- if the matches give no machine, so do their rows
+-- if the matches give no machine, their rows give none either, with the same outcome
 pub no_machine_rows : (f : Found) (rows : List Row) (outcome : Outcome) → rows_of f ≡ rows → IsNoMachine (one_text f) outcome
     → IsNoMachine (λ name. one_of name rows) outcome
 no_machine_rows f rows outcome same none = no_machine (one_text f) (λ name. one_of name rows) outcome (one_text-of_rows f rows same) none

@@ -1,4 +1,4 @@
--- Texts of the numbers in a range, and the parts of a row.
+-- The joined texts of the numbers in a range, and the text of a row, joined from its parts.
 use Rattle.std.proofs.Common.{◌≡◌, ℕ, zero, suc, ◌+◌, ◌-◌, ◌≤◌, List, [], ◌∷◌, ◌++◌, codes, flat_map, take, ap, sym, ◌∙◌, append_assoc, append-nil, arith}
 use Rattle.std.specs.Fmt.{decimal}
 use Rattle.std.specs.List.{concat, range_with_len}
@@ -12,7 +12,7 @@ each_more f a (suc n) =
     ∙ sym (append_assoc (f a) (flat_map f (range_with_len (a + 1) n)) (f (a + 1 + n)))
     ∙ ap (λ k. (f a ++ flat_map f (range_with_len (a + 1) n)) ++ f k) (let e : a + 1 + n ≡ a + suc n = omega arith in e)
 
--- the texts of the numbers from `first` to t are the texts of those below t and then the text of t
+-- the joined texts of the numbers from `first` to t are the joined texts from `first` to t - 1, followed by the text of t
 pub range_more : (f : ℕ → List ℕ) (first t : ℕ) → first ≤ t
     → flat_map f (range_with_len first (t + 1 - first)) ≡ flat_map f (range_with_len first (t - first)) ++ f t
 range_more f first t from =

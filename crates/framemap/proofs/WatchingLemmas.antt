@@ -1,4 +1,4 @@
--- Counting one more line.
+-- Every line that is run is counted, and its event too.
 use Rattle.std.proofs.Common.{◌≡◌, ℕ, ◌+◌, ◌^◌, ◌<◌, List, [], ◌∷◌, ◌++◌, Ok, Option, Some, None, length, refl, ap, sym, subst, ◌∙◌, arith, length-append}
 use Rattle.std.proofs.lemmas.List.{append-nil}
 use Rattle.std.specs.Io.KnownBytes.{Consumes, IsAtEnd}
@@ -17,7 +17,7 @@ use Rattle.replay_core.proofs.RunLemmas.{events_more}
 use Rattle.framemap.specs.declared.watched.Watched.{Watched}
 use Rattle.framemap.specs.Watching.{watches, HasWatched}
 
--- if the request at the front was counted as an event and a line, the loop has counted the line at the front
+-- if the line at the front is a request, and the numbers of events and of lines have grown by 1, the line at the front is done
 pub request_counted : (s s' : Watched × KernelContent) (bytes : List ℕ) (known : Option (List ℕ)) (tenant : ℕ) (command : Command) (len : ℕ)
     → ReadsAs bytes tenant command len → s'.0.events ≡ s.0.events + 1
     → (line_count s.0.history + 1 < 2 ^ 32 → line_count s'.0.history ≡ line_count s.0.history + 1)
@@ -33,7 +33,7 @@ request_counted s s' bytes known tenant command len read events lines = (
   },
 )
 
--- if the lines `xs` were counted, and then one more line, all of them were counted
+-- if the lines `xs` were counted and then one more line, all these lines were counted
 one_watched : (old : Watched) (xs : List (List ℕ)) (line taken here : List ℕ) (s s' : Watched × KernelContent) → HasWatched xs old s.0 → watches s line here [] s'
     → HasWatched (xs ++ line ∷ []) old s'.0
 one_watched old xs line taken here s s' sofar did =
@@ -50,14 +50,14 @@ one_watched old xs line taken here s s' sofar did =
           omega (arith, length_more, before, did.lines (omega (arith, length_more, before, below)));
     }
 
--- if lines were processed one after another, they were counted
+-- if these lines were run one after another, all of them were counted
 pub have_watched : (old : Watched) (before : KernelContent) (lines : List (List ℕ)) (taken : List ℕ) (s : Watched × KernelContent)
     → HaveRun watches (old, before) lines taken s → HasWatched lines old s.0
 have_watched old before lines taken s ran =
     run_keeps watches (λ xs _ s. HasWatched xs old s.0) (one_watched old) [] lines [] taken (old, before) s
     (record { events = omega arith; lines = λ below. omega arith }) ran
 
--- if all of the trace was given, the given bytes are the trace
+-- if a feed gave bytes until nothing was left of the trace, the given bytes are the trace
 pub all_given : (old new : Option (List ℕ)) (trace given : List ℕ) → old ≡ Some trace → Consumes old new given → IsAtEnd new → given ≡ trace
 all_given old new trace given is consumes end = go new (subst (λ (known : Option (List ℕ)). Consumes known new given) is consumes) end
   where

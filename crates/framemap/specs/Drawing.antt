@@ -9,7 +9,8 @@ use Rattle.framemap.specs.declared.run.TheConstants.{LABEL_GAP}
 use Rattle.framemap.specs.declared.settings.Settings.{Settings}
 use Rattle.framemap.specs.Tables.{table_text}
 
--- the number of the first tenant that is drawn, and the number of the last one plus 1; the requested tenant is drawn, or all are
+-- The number of the first tenant that is drawn, and 1 more than the number of the last one. Only the requested tenant is drawn, or
+-- all tenants if none is requested.
 abbrev pub first_drawn : Option ℕ → ℕ
 first_drawn None = 0
 first_drawn (Some t) = t
@@ -18,20 +19,23 @@ abbrev pub end_drawn : ℕ → Option ℕ → ℕ
 end_drawn tenants None = tenants
 end_drawn tenants (Some t) = t + 1
 
--- the picture is of the requested tenants, and has cells for the requested number of columns
+-- the picture draws the requested tenants, has cells for the requested number of columns, and moves the word `refused` down by
+-- LABEL_GAP
 pub record IsRequestedPicture (settings : Settings) (picture : Picture) : Type 0 where
   pub first : first_tenant picture ≡ first_drawn settings.machine.only
   pub end : end_of_tenants picture ≡ end_drawn settings.machine.config.tenants settings.machine.only
   pub columns : most_columns_in picture ≡ settings.columns
   pub gap : label_gap_of picture ≡ LABEL_GAP
 
--- with `--figures` the text is the table of this history, and otherwise its picture; the name in its title is not specified
+-- With `--figures` the text is the table of this history. Otherwise it is the picture of this history, and the name in the title
+-- is not specified.
 abbrev pub IsDrawnText : Settings → History → Picture → List ℕ → Type 0
 IsDrawnText settings history picture text = MatchBool settings.figures
     (text ≡ table_text history (first_drawn settings.machine.only) (end_drawn (tenants_of history) settings.machine.only))
     ((name : Option (List ℕ)) × IsPictureOf picture history name text)
 
--- the text shows a history; if the bytes of the trace are known, the history has all its lines
+-- The text shows a history. If the bytes of the trace are known and have fewer than 2 ^ 32 lines, the history counts all of these
+-- lines.
 pub record IsDrawing (settings : Settings) (known : Option (List ℕ)) (text : List ℕ) : Type 0 where
   pub history : History
   pub picture : Picture

@@ -1,4 +1,4 @@
--- What a command line requests: which word belongs to which name, in clap's terms.
+-- The settings that a command line of `framemap` requests, in terms of clap's model.
 use Rattle.std.specs.Prelude.{◌≡◌, ◌⊎◌, ℕ, true, false, List, [], Option, Some, None, codes, max, min, option_map, unwrap_or}
 use Rattle.std.specs.String.{string_bytes}
 use Rattle.clap.specs.Words.{App, Kinds, Rule, Text, fault_of, first_of, matches_of, new_rule, one_of, takes, with_rule}
@@ -12,13 +12,15 @@ use Rattle.command_line.specs.declared.outcome.Outcome.{Outcome}
 use Rattle.framemap.specs.declared.settings.Settings.{Settings}
 use Rattle.framemap.specs.declared.settings.TheConstants.{DEFAULT_COLUMNS}
 
--- the number of columns is the number in the text, or the default if there is none, limited to the range from 1 to MOST_COLUMNS
+-- `columns` is the number in the text, or the default if the text has no number. It is limited to the range from 1 to
+-- MOST_COLUMNS.
 pub record AreColumns (text : Option Text) (columns : ℕ) : Type 0 where
   pub written : Option ℕ
   pub read : MayWrite text written
   pub within : columns ≡ max 1 (min (unwrap_or written DEFAULT_COLUMNS) MOST_COLUMNS)
 
--- the settings are the values of the arguments: `read` returns those that are read as a type, `whole` the path of FILE
+-- The settings are the values of the arguments. `read` returns the text of a number or a flag by the argument's name, and `whole`
+-- returns the path of FILE.
 pub record AsksMap (read whole : Text → Option Text) (settings : Settings) : Type 0 where
   pub machine : AsksMachine read settings.machine
   pub columns : AreColumns (read (codes "columns")) settings.columns
@@ -48,7 +50,7 @@ IsMapInOrder words = takes map_command_line words ≡ true
 unfoldable pub map_faults : List Text → Kinds
 map_faults words = fault_of map_command_line words
 
--- why these words are refused: clap's model refuses them, or it takes them and they name no machine
+-- why these words are refused: clap's model refuses them, or it takes them but their values give no machine
 abbrev pub IsMapRefusedFor : List Text → Outcome → Type 0
 IsMapRefusedFor words outcome = IsRefusedBy (map_faults words) outcome
     ⊎ ((map_faults words ≡ []) × IsNoMachine (λ name. one_of name (matches_of map_command_line words)) outcome)

@@ -1,4 +1,4 @@
--- Counting the lines and events of a trace.
+-- The numbers of lines and events that are counted while a trace runs.
 use Rattle.std.specs.Prelude.{◌≡◌, ℕ, ◌+◌, ◌^◌, ◌<◌, List, [], length}
 use Rattle.words_core.specs.Grammar.{reading_of}
 use Rattle.world_core.specs.Output.{event_in, events_of}
@@ -6,14 +6,15 @@ use Rattle.kernel_core.specs.Content.{KernelContent}
 use Rattle.frame_picture.specs.Histories.{line_count}
 use Rattle.framemap.specs.declared.watched.Watched.{Watched}
 
--- the line writes nothing, its event is counted, and the history gets `more` lines
+-- The line writes nothing. Its event is counted, if it has one. The history's number of lines grows by `more`, if it stays below
+-- 2 ^ 32.
 pub record WatchesLine (more : ℕ) (s : Watched × KernelContent) (line taken rest : List ℕ) (s' : Watched × KernelContent) : Type 0 where
   pub silent : taken ≡ []
   pub whole : rest ≡ []
   pub events : s'.0.events ≡ s.0.events + length (event_in (reading_of line))
   pub lines : line_count s.0.history + more < 2 ^ 32 → line_count s'.0.history ≡ line_count s.0.history + more
 
--- the effect of a line
+-- the effect of a line, which adds it to the history
 abbrev pub watches : Watched × KernelContent → List ℕ → List ℕ → List ℕ → Watched × KernelContent → Type 0
 watches = WatchesLine 1
 
@@ -21,7 +22,7 @@ watches = WatchesLine 1
 abbrev pub watches_first : Watched × KernelContent → List ℕ → List ℕ → List ℕ → Watched × KernelContent → Type 0
 watches_first = WatchesLine 0
 
--- all of these lines have been counted
+-- The events of all these lines were counted. The lines were counted too, if the history's number of lines is below 2 ^ 32.
 pub record HasWatched (done : List (List ℕ)) (old new : Watched) : Type 0 where
   pub events : new.events ≡ old.events + length (events_of done)
   pub lines : line_count old.history + length done < 2 ^ 32 → line_count new.history ≡ line_count old.history + length done

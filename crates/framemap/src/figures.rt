@@ -31,7 +31,7 @@ fn write_headings<W: Write>(out: &mut W, orders: usize) -> io::Result<()>
     out.write_all(b"\n")
 }
 
-/// Writes the rows of a column, one for each tenant.
+/// Writes the rows of a column, one for each tenant in `first..end`.
 fn write_column<W: Write>(
     out: &mut W,
     column: &Column,
@@ -49,8 +49,8 @@ fn write_column<W: Write>(
     Ok(())
 }
 
-/// Writes the row of a tenant: the number of lines run so far, the tenant's number, its held frames and its taken frames, the
-/// number of its requests that were refused so far for lack of frames, and its number of free blocks of each order.
+/// Writes the row of tenant `t` for a column: the number of lines run so far, `t`, the numbers of its held frames, of its taken
+/// frames and of its requests that were refused so far for lack of frames, and the number of its free blocks of each order.
 fn write_row<W: Write>(out: &mut W, column: &Column, orders: usize, t: u8) -> io::Result<()>
     requires { orders ≤ ORDERS }
     ensures { WritesText result (W.contents out.old) (W.contents out.new) (λ text. text ≡ row_text orders column.now t) }
@@ -85,7 +85,7 @@ fn figures_of(column: &Column, t: u8) -> Figures
         .unwrap_or(Figures::NONE)
 }
 
-/// Returns the number of requests of tenant `t` that were refused for lack of frames up to a column.
+/// Returns the number of requests of tenant `t` that were refused for lack of frames up to the end of a column.
 fn refused_to(column: &Column, t: u8) -> u32
     ensures { result ≡ refused_in t (Some column.now) }
 {

@@ -1,4 +1,5 @@
-//! Runs a trace on a new machine whose memory is shared by tenants, and writes a picture of its frames to standard output.
+//! Runs a trace on a new machine whose memory is shared by tenants. Writes a picture of the machine's frames to standard output,
+//! or a table with `--figures`.
 //!
 //! `framemap --order S --superblocks N --tenants T [--only T] [--columns C] [--figures] [FILE]`
 //!
@@ -51,7 +52,8 @@ struct Ran {
     error: Option<FileError>,
 }
 
-/// Prints how a run ended, whether the trace had no event, and which file could not be opened or read. Returns the exit status.
+/// Prints on standard error why a run failed and which file could not be opened or read, or that the trace had no event. Returns
+/// the exit status.
 fn tell_run(rt: &impl Eprint, settings: &Settings, ran: Ran) -> ExitCode {
     let is_of_nothing = ran.drawn.is_of_nothing();
     let code = tell(rt, PROGRAM, &ran.drawn.outcome);
@@ -71,8 +73,8 @@ fn read_command_line(rt: &(impl Env + AllocGlobal)) -> Result<Settings, Outcome>
     read_words(rt.alloc(), texts.as_slice())
 }
 
-/// Runs the trace of a reader, and writes its picture or its figures to standard output. A trace that could not be opened, for
-/// any reason, is unreadable. A trace may have any number of bytes; only the number of its lines is limited.
+/// Runs the trace of a reader, and writes its picture or its figures to standard output. If the trace could not be opened, the
+/// outcome is `Unreadable`. A trace may have any number of bytes; only the number of its lines is limited.
 fn run_opened<R: Read + Drop>(
     rt: &(impl Print + AllocGlobal),
     settings: &Settings,

@@ -47,8 +47,8 @@ impl Drawn {
 /// The distance in pixels by which the word `refused` is moved down, so that it does not overlap the lowest number of the axis.
 const LABEL_GAP: u32 = 4;
 
-/// Runs a trace on a new machine with these settings, and draws its frames over the lines. If the trace cannot be read to its
-/// end, nothing is drawn.
+/// Runs a trace on a new machine with these settings, and writes the picture of the machine's frames over the lines, or the table
+/// of the figures. If the trace cannot be read to its end, nothing is written.
 pub fn run<F: Feed + Drop, W: Write>(
     alloc: Global,
     settings: &Settings,
@@ -114,7 +114,8 @@ fn file_name(path: &str) -> &str {
     }
 }
 
-/// Runs all lines of a trace with fewer than [`LINES_ABOVE`] line feeds, and keeps the history of the machine's states.
+/// Runs all lines of a trace, and keeps the history of the machine's states. Fails if the trace cannot be read, or if it does not
+/// have fewer than [`LINES_ABOVE`] line feeds.
 fn watch<F: Feed + Drop>(
     kernel: &mut Kernel,
     feed: F,
@@ -127,7 +128,7 @@ fn watch<F: Feed + Drop>(
 {
     let mut limited = LineLimit::new(feed, LINES_ABOVE);
     let mut unheard = WriterDrain::new(io::sink());
-    // For the proof: there are at most as many events as bytes.
+    // Only for the proof: the feed has at most `room` bytes, so the trace has at most `room` events.
     let _most = limited.room();
     do_lines(kernel, watched, &mut limited, &mut unheard)?;
     watched.history.end(kernel);

@@ -1,4 +1,4 @@
-//! Reads the command line.
+//! The settings that a command line requests, and what the program prints about itself.
 
 ghost use Rattle.std.specs.Prelude.{◌≡◌, IfErr, IfOk, map};
 ghost use Rattle.clap.specs.Words.{app_of};
@@ -54,9 +54,12 @@ pub struct Settings {
     pub file: Option<String>,
 }
 
-/// Reads the words of a command line, without the program's name.
+/// Returns the settings that the words of a command line request. The words do not include the program's name.
+///
+/// Fails with `Help` or `Version` if the words request one of them, with `BadLine` if they are faulty, with `BadOnly` if `--only`
+/// names no tenant, or with `NoMemory`.
 pub fn read_words<'a>(alloc: Global, words: &'a [&'a str]) -> Result<Settings, Outcome>
-    // Clap's model says which word belongs to which name.
+    // Clap's model says which word is the value of which argument.
     ensures asked { IfOk result (IsMapRequestedBy (map (λ word. word.now) words.entry.now)) }
     ensures refused { IfErr result (IsMapRefusedFor (map (λ word. word.now) words.entry.now)) }
     // Words that request settings are refused only if memory runs out.
@@ -73,7 +76,7 @@ pub fn read_words<'a>(alloc: Global, words: &'a [&'a str]) -> Result<Settings, O
     })
 }
 
-/// Returns the program's command line: its arguments, with their ranges.
+/// Returns the command that the program parses: the options of the machine, `--columns` with its range, `--figures` and FILE.
 fn command<'a>(alloc: Global) -> Result<Command<'a>, AllocError>
     ensures { IfOk result (λ command. app_of command ≡ map_command_line) }
 {

@@ -26,13 +26,13 @@ pub fn run<T: Feed, R: Feed>(
     requires bootable { is_bootable config ≡ true }
     requires trace_fine { trace.old.failed ≡ false }
     requires replies_fine { replies.old.failed ≡ false }
-    // `asked` are the bytes that were read of the trace, and `told` those of the replies. The finding is true of all texts that
-    // begin with these bytes. If it is a breach, `shown` has its line and its reply.
+    // `asked` are the bytes that were read of the trace, and `told` those of the replies. All texts that begin with these bytes
+    // have this finding, and it is true of them. If it is a breach, `shown` has its line and its reply.
     ensures found { (asked : List ℕ) × (told : List ℕ) × HasGiven trace.old trace.new asked × HasGiven replies.old replies.new told
         × IfOk result (λ finding. WhateverFollows trace.new replies.new asked told (IsFindingOf config finding))
         × IfOk result (λ finding. ShowsFinding (opening_of config) finding asked told shown.new) }
     ensures kept { IfOk result (λ finding. IsKeptAtEnd finding trace.new replies.new) }
-    // If the texts of the trace and of the replies are known, the finding is true of them.
+    // If the texts of the trace and of the replies are known, they have this finding, and it is true of them.
     ensures known { (asked told : List ℕ) → trace.old.left ≡ Some asked → replies.old.left ≡ Some told
         → IfOk result (λ finding. IsFindingOf config finding asked told) }
     // Memory runs out only before anything is read, or at a reply that adds something to what is known. This reply and all

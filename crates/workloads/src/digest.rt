@@ -2,12 +2,13 @@
 
 use std::io::{self, Write};
 
-/// A number that depends on the added numbers, in their order, and on the added bytes, in theirs, but not on how the bytes were
-/// cut into pieces.
+/// A digest of the numbers in the order in which they are added, and of the bytes in the order in which they are added. It does
+/// not depend on how the bytes are cut into pieces.
 #[derive(Debug, Drop)]
 pub struct Digest {
     sum: u64,
-    /// The last bytes, at most seven, with the first one in the highest bits; and the number of these bytes.
+    /// The last bytes, at most seven, which are not yet part of `sum`. The first of them is in the highest bits. `count` is their
+    /// number.
     tail: u64,
     count: u32,
 }

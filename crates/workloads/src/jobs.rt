@@ -20,7 +20,7 @@ use std::alloc::{AllocError, Global};
 use std::io::{BufWriter, Read, Write};
 use words_core::{Answer, Event, LineFault, Refusal};
 
-/// The capacity of a trace in bytes, for each of its lines.
+/// The capacity of a trace, in bytes per line.
 const LINE_BYTES: usize = 32;
 
 /// The size of a drain's buffer in bytes.
@@ -65,7 +65,7 @@ impl Work {
     }
 }
 
-/// Returns the works of the workload with this name, or none if the name is unknown.
+/// Returns the works of the workload with this name, or no works if the name is unknown. Fails if memory runs out.
 pub fn works_of(alloc: Global, name: &str) -> Result<Vec<Work>, AllocError> {
     let mut works = Vec::new(alloc);
     let loads = [
@@ -140,8 +140,8 @@ fn booted(alloc: Global, config: Config) -> Result<Kernel, AllocError> {
     Kernel::boot(alloc, config).map_err(|_| AllocError)
 }
 
-/// Replays the trace of a reader into a writer, for one tenant or for all. Returns a number that depends on the counts and the
-/// errors.
+/// Replays the trace of a reader into a writer, for one tenant or for all. Returns a number that depends on the counts, the error
+/// and the success of the flush.
 fn replay_between<R: Read + Drop, W: Write + Drop, N: Notes>(
     alloc: Global,
     config: Config,
@@ -275,7 +275,7 @@ fn check_both(
     Ok(())
 }
 
-/// Checks replies. Returns a number that depends on what is found.
+/// Checks the replies to a trace. Returns a number that depends on the finding.
 fn checked(alloc: Global, config: Config, trace: &[u8], replies: &[u8]) -> Result<u64, AllocError> {
     if !config.is_bootable() {
         return Ok(0);

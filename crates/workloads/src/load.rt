@@ -11,9 +11,9 @@ pub enum Kind {
     Give,
     Read,
     Write,
-    /// A new cache of any size.
+    /// A new cache with a random object size.
     Cache,
-    /// A destroy of any cache. It is refused if there is no cache with this number, or if the cache has a live object.
+    /// A destroy of a random cache number. It is refused if there is no cache with this number, or if the cache has a live object.
     Destroy,
     Reap,
     Report,
@@ -36,10 +36,10 @@ pub struct Load {
     pub sizes: &'static [u32],
     /// The orders of blocks. Each block gets the order of a random entry, so an order with more entries is more frequent.
     pub orders: &'static [u32],
-    /// A tenant that has this many blocks or objects gives one back before it gets another.
+    /// The largest numbers of blocks and of objects of a tenant. A tenant at the limit frees one instead of allocating another.
     pub most_blocks: usize,
     pub most_objects: usize,
-    /// Each kind of line with its weight. A kind is chosen as often as its weight says, relative to the sum of all weights.
+    /// Each kind of line with its weight. The share of lines of a kind is its weight divided by the sum of all weights.
     pub kinds: &'static [(Kind, u32)],
 }
 
@@ -101,7 +101,7 @@ pub const GUESTS: Load = Load {
     ],
 };
 
-/// Blocks of small orders, about half of all frames, freed in any order.
+/// Blocks of small orders. About half of all frames are taken, and blocks are freed in a random sequence.
 pub const BLOCKS: Load = Load {
     config: SMALL,
     granted: 32,
@@ -123,7 +123,7 @@ pub const OBJECTS: Load = Load {
     kinds: &[(Kind::Take, 600), (Kind::Give, 400), (Kind::Reap, 1)],
 };
 
-/// Bytes read and written in live objects and blocks.
+/// Reads and writes of bytes in live objects and blocks.
 pub const BYTES: Load = Load {
     config: SMALL,
     granted: 32,
@@ -141,7 +141,7 @@ pub const BYTES: Load = Load {
     ],
 };
 
-/// All commands, and lines that are no commands.
+/// All commands except `reset`, and lines that are no commands.
 pub const MIXED: Load = Load {
     config: SMALL,
     granted: 30,

@@ -24,7 +24,7 @@ const ODD_LINES: [&[u8]; 8] = [
     b"  read  4096   4 \n",
 ];
 
-/// Patterns of new caches.
+/// The pattern of a new cache is the first 1 to 16 of these bytes.
 static PATTERN: [u8; 16] = *b"\xa5\x5a\x01\xfe\xa5\x5a\x02\xfd\xa5\x5a\x03\xfc\xa5\x5a\x04\xfb";
 
 /// What a tenant holds, according to the answers.
@@ -167,7 +167,7 @@ impl Maker {
         }
     }
 
-    /// Appends the written line to the trace.
+    /// Appends the text of `line` to the trace.
     #[inline(always)]
     fn put_line(&mut self) -> Result<(), AllocError> {
         self.trace.extend_from_slice(self.line.text())
@@ -193,7 +193,7 @@ impl Maker {
         Ok(told)
     }
 
-    /// Adds an `alloc` of an order of the load. If the tenant has the largest number of blocks, adds a `free` instead.
+    /// Adds an `alloc` with a random order of the load. If the tenant has the largest number of blocks, adds a `free` instead.
     fn alloc(&mut self, t: u32) -> Result<(), AllocError> {
         let most = self.load.most_blocks;
         if self
@@ -213,7 +213,7 @@ impl Maker {
         Ok(())
     }
 
-    /// Adds a `free` of any of the tenant's blocks, or of a random frame if it has no block.
+    /// Adds a `free` of a random block of the tenant, or of a random frame if the tenant has no block.
     fn free(&mut self, t: u32) -> Result<(), AllocError> {
         let draw = self.numbers.next();
         let mut frame = (draw >> 48) as u32;
@@ -226,7 +226,7 @@ impl Maker {
         Ok(())
     }
 
-    /// Adds a `take` from any cache of the load. If the tenant has the largest number of objects, adds a `give` instead.
+    /// Adds a `take` from a random cache of the load. If the tenant has the largest number of objects, adds a `give` instead.
     fn take(&mut self, t: u32) -> Result<(), AllocError> {
         let most = self.load.most_objects;
         if self
@@ -245,7 +245,7 @@ impl Maker {
         Ok(())
     }
 
-    /// Adds a `give` of any of the tenant's objects, or of a random place if it has no object.
+    /// Adds a `give` of a random object of the tenant, or of a random place if the tenant has no object.
     fn give(&mut self, t: u32) -> Result<(), AllocError> {
         let draw = self.numbers.next();
         let mut object = Object {
@@ -263,8 +263,8 @@ impl Maker {
         Ok(())
     }
 
-    /// Returns a place in a block or an object of the tenant, and the number of bytes to use from there on, at most 64. If none
-    /// is found, returns place 0 and 64 bytes.
+    /// Returns a place in a random block or object of the tenant, and how many bytes a line may use from that place on, at most
+    /// 64. If no block or object is chosen, returns place 0 and 64 bytes.
     fn some_room(&mut self, t: u32) -> (u32, u32) {
         let draw = self.numbers.next();
         let Some(tenant) = self.tenants.get(t as usize) else {
@@ -324,7 +324,7 @@ impl Maker {
         }
     }
 
-    /// Adds the lines that make the caches which a tenant has at the start.
+    /// Adds a line for each cache that a tenant has at the start.
     fn make_caches(&mut self, t: u32) -> Result<(), AllocError> {
         for size in self.load.sizes {
             self.cache(t, *size, 8)?;
@@ -383,7 +383,8 @@ impl Maker {
         Ok(())
     }
 
-    /// Adds a line of the administrator, or all lines of a tenant that begins again.
+    /// Adds a command of the administrator. A take-back that succeeds is followed by a grant, and a reset by grants and new
+    /// caches.
     fn administer_some(&mut self, t: u32, kind: Kind) -> Result<(), AllocError> {
         let slots = self.tenants.get(t as usize).map_or(1, |it| it.slots.max(1));
         let slot = self.numbers.below(slots);

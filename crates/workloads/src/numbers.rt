@@ -21,7 +21,7 @@ impl Numbers {
         self.0
     }
 
-    /// Returns the next number, which is below `n`.
+    /// Returns a number below `n`, computed from the next number.
     #[inline(always)]
     pub fn below(&mut self, n: u32) -> u32
         requires { 0 < n }

@@ -47,7 +47,7 @@ impl Line {
         }
     }
 
-    /// Appends a word, with the blanks that separate it from others.
+    /// Appends a word. The caller includes the blanks that separate it from other words.
     #[inline(always)]
     pub fn word(&mut self, word: &[u8]) {
         for byte in word {
@@ -109,7 +109,7 @@ impl Line {
         self.byte(b'\n');
     }
 
-    /// Appends the part of a line after the tenant's number, for rare requests.
+    /// Appends a rare request: the part of its line after the tenant's number.
     fn rare_request(&mut self, request: &Request<'_>) {
         match request {
             Request::Read { place, len } => {
@@ -144,7 +144,7 @@ impl Line {
         }
     }
 
-    /// Writes a line of the administrator, with its numbers.
+    /// Writes the line of a command of the administrator: the command's word, and its numbers.
     pub fn admin(&mut self, word: &[u8], numbers: &[u32]) {
         self.len = 0;
         self.word(b"admin ");

@@ -4,7 +4,7 @@ use Rattle.picture_svg.specs.Texts.{AppendsText}
 use Rattle.framemap.specs.Tables.{column_rows, heading_text}
 use Rattle.framemap.proofs.figures.write_figures.Given as goal
 
--- the rows of the columns so far are written
+-- the headings and the rows of the columns so far are written
 abbrev pub invariant-loop-column : goal.invariant-loop-column
 invariant-loop-column g l = AppendsText (g.W.Write.contents l.fn.out) (g.W.Write.contents l.out)
     (λ text. text ≡ heading_text (drawn_order l.history + 1)
