@@ -9,8 +9,8 @@ use Rattle.framemap.specs.declared.run.TheConstants.{LABEL_GAP}
 use Rattle.framemap.specs.declared.settings.Settings.{Settings}
 use Rattle.framemap.specs.Tables.{table_text}
 
--- The number of the first tenant that is drawn, and 1 more than the number of the last one. Only the requested tenant is drawn, or
--- all tenants if none is requested.
+-- The number of the first tenant that is drawn, and 1 more than the number of the last one. Only the requested tenant is drawn,
+-- or all tenants if none is requested.
 abbrev pub first_drawn : Option ℕ → ℕ
 first_drawn None = 0
 first_drawn (Some t) = t

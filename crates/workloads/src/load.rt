@@ -13,7 +13,7 @@ pub enum Kind {
     Write,
     /// A new cache with a random object size.
     Cache,
-    /// A destroy of a random cache number. It is refused if there is no cache with this number, or if the cache has a live object.
+    /// A destroy with a random cache number. It is refused if no cache has this number, or if the cache has a live object.
     Destroy,
     Reap,
     Report,

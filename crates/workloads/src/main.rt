@@ -1,5 +1,5 @@
-//! The benchmark: does the jobs that users wait for, on traces that it makes from a seed. For each workload, it prints a digest of
-//! all results.
+//! The benchmark: does the jobs that users wait for, on traces that it makes from a seed. For each workload, it prints a digest
+//! of all results.
 //!
 //! `workloads NAME SEED [PART]`
 //!
