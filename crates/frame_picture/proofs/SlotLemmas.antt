@@ -10,7 +10,7 @@ use Rattle.frame_picture.specs.Bounds.{IsGreatest}
 use Rattle.frame_picture.specs.Slots.{IsAbove, IsSheetOf}
 use Rattle.frame_picture.proofs.Greatest.{greatest_none, greatest_both}
 
--- if tenant t owns the sheet, its greatest slot in the sheet is the slot of the owner
+-- if tenant t owns the sheet, the tenant's greatest slot in the sheet is the slot that `owner` names
 pub held_slot : (t : ℕ) (sheet : Sheet) (owner : Owner) → sheet.owner ≡ Some owner → owner.tenant ≡ t
     → IsGreatest (IsAbove (λ slot. IsSheetOf t slot sheet)) 0 (owner.slot + 1)
 held_slot t sheet owner is mine = record {

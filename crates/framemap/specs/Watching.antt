@@ -14,7 +14,7 @@ pub record WatchesLine (more : ℕ) (s : Watched × KernelContent) (line taken r
   pub events : s'.0.events ≡ s.0.events + length (event_in (reading_of line))
   pub lines : line_count s.0.history + more < 2 ^ 32 → line_count s'.0.history ≡ line_count s.0.history + more
 
--- the effect of a line, which adds it to the history
+-- the effect of a line, including its addition to the history
 abbrev pub watches : Watched × KernelContent → List ℕ → List ℕ → List ℕ → Watched × KernelContent → Type 0
 watches = WatchesLine 1
 

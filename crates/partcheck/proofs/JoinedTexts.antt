@@ -19,13 +19,13 @@ pub then_text : {a b : Option (List ℕ)} {front : List ℕ} (c : Option (List �
     → HasText a c (front ++ text)
 then_text {a} {b} {front} c text first last = record { appended = Appends-trans a b c front text first.appended last }
 
--- if `front` was appended and the last write succeeds with `text`, `whole` was appended, which is `front ++ text`
+-- let `whole` be `front ++ text`: if `front` was appended and the last write of `text` succeeds, `whole` was appended
 pub last_text : {E : Type 0} {a b : Option (List ℕ)} {front : List ℕ} (c : Option (List ℕ)) (r : Result (Unit {0}) E) (text whole : List ℕ)
     → HasText a b front → OnOk r (Appends b c text) → front ++ text ≡ whole → OnOk r (Appends a c whole)
 last_text {E} {a} {b} {front} c (Ok x) text whole first last is = subst (Appends a c) is (Appends-trans a b c front text first.appended last)
 last_text c (Err e) text whole first last is = tt
 
--- if a single write succeeds with `text`, `whole` was appended, which is equal to `text`
+-- let `whole` be equal to `text`: if a single write of `text` succeeds, `whole` was appended
 pub only_text : {E : Type 0} (a b : Option (List ℕ)) (r : Result (Unit {0}) E) (text whole : List ℕ) → OnOk r (Appends a b text) → text ≡ whole
     → OnOk r (Appends a b whole)
 only_text a b (Ok x) text whole appended is = subst (Appends a b) is appended

@@ -32,7 +32,7 @@ IsSoundFinding config (Finding.Kept lines) trace replies =
 IsSoundFinding config (Finding.Broken breach) trace replies =
     IsBreach MOST_CACHES config.order config.superblocks config.tenants (lines_of_trace trace) replies breach
 
--- this is the finding for the trace and the replies, and what it means is true of them
+-- this is the finding for the trace and the replies, and what it says of them is true
 abbrev pub IsFindingOf : Config → Finding → (trace replies : List ℕ) → Type 0
 IsFindingOf config finding trace replies =
     (finding ≡ finding_of (opening_of config) trace replies) × IsSoundFinding config finding trace replies

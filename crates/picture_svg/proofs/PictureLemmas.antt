@@ -80,8 +80,8 @@ grids_of_bands picture history t top [] text are = tt
 grids_of_bands picture history t top (grid ∷ grids) text are =
     (are.2.is_grid, grids_of_bands picture history (t + 1) (lower top (band_height grid.rows)) grids are.1 are.3)
 
--- if the band of tenant k, the next one, begins where the bands of the tenants from t on end, appending its text gives the bands
--- of the tenants from t to k
+-- Let `text` be the bands of the tenants from t to k - 1. If the band of tenant k begins where these bands end, `text` with this
+-- band appended is the text of the bands of the tenants from t to k.
 pub bands_push : (picture : Picture) (history : History) (t top k bottom : ℕ) (grids : List Grid) (grid : Grid) (text band : List ℕ) → t + length grids ≡ k
     → bottom_of top (rows_of grids) ≡ bottom → AreBands picture history t top grids text → IsBandOf picture history k grid bottom band
     → AreBands picture history t top (grids ++ grid ∷ []) (text ++ band)

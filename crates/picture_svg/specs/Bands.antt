@@ -16,14 +16,14 @@ use Rattle.picture_svg.specs.Marks.{refusals_text, stack_text}
 use Rattle.picture_svg.specs.Sizes.{lower, rows_height}
 use Rattle.picture_svg.specs.Texts.{figures_text, tenant_title}
 
--- the text of tenant t's figures in the last column, and of the largest number of its frames that were taken in any column
+-- the text has tenant t's figures in the last column, and the largest number of the tenant's taken frames in any column
 pub record IsFiguresText (columns : List Column) (t top : ℕ) (text : List ℕ) : Type 0 where
   pub most : ℕ
   pub greatest : IsGreatest (λ frames. SomeIndex columns (λ n. taken_in_column columns t n ≡ frames)) 0 most
   pub whole : let last = length columns - 1 in
       text ≡ figures_text (taken_in_column columns t last) (figures_in_column columns t last).held most (refused_until columns t last) top
 
--- the text of a stack whose height represents the largest number of tenant t's free frames in any column, but at least 1
+-- the text is a stack whose height represents the largest number of tenant t's free frames in any column, but at least 1
 pub record IsStackText (history : History) (t foot : ℕ) (text : List ℕ) : Type 0 where
   pub most : ℕ
   pub greatest : IsGreatest (λ frames. SomeIndex (columns_of history) (λ n. free_in_column (columns_of history) t 0 n

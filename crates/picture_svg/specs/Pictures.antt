@@ -44,14 +44,14 @@ pub record IsSamePicture (old new : Picture) : Type 0 where
 abbrev pub most_rows_of : ℕ → ℕ
 most_rows_of bands = TALL_BANDS * MOST_ROWS / max bands TALL_BANDS
 
--- the y coordinate at which the last of these bands ends, if the first begins at `top`; `rows` has each band's number of rows
+-- the y coordinate at which the last band ends, if the bands have these numbers of rows and the first band begins at `top`
 abbrev pub bottom_of : ℕ → List ℕ → ℕ
 bottom_of top rows = fold (λ top rows. lower top (band_height rows)) top rows
 
 abbrev pub rows_of : List Grid → List ℕ
 rows_of grids = map (λ grid. grid.rows) grids
 
--- the text of tenant t's band; it shows the first columns, as many as the picture has cells for
+-- the text of tenant t's band; it shows all columns, or only the first ones if the picture has cells for fewer columns
 pub record IsBandOf (picture : Picture) (history : History) (t : ℕ) (grid : Grid) (top : ℕ) (text : List ℕ) : Type 0 where
   pub cells : List (List Tone)
   pub is_grid : IsGridOf history t (most_rows_of (drawn_tenants picture)) grid
