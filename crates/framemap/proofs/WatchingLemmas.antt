@@ -17,7 +17,7 @@ use Rattle.replay_core.proofs.RunLemmas.{events_more}
 use Rattle.framemap.specs.declared.watched.Watched.{Watched}
 use Rattle.framemap.specs.Watching.{watches, HasWatched}
 
--- if the line at the front is a request, and the numbers of events and of lines have grown by 1, the line at the front is done
+-- if the line at the front is a request, and the numbers of events and of lines have grown by 1, the line at the front is counted
 pub request_counted : (s s' : Watched × KernelContent) (bytes : List ℕ) (known : Option (List ℕ)) (tenant : ℕ) (command : Command) (len : ℕ)
     → ReadsAs bytes tenant command len → s'.0.events ≡ s.0.events + 1
     → (line_count s.0.history + 1 < 2 ^ 32 → line_count s'.0.history ≡ line_count s.0.history + 1)

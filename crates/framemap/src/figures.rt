@@ -49,8 +49,8 @@ fn write_column<W: Write>(
     Ok(())
 }
 
-/// Writes the row of tenant `t` for a column: the number of lines run so far, `t`, the numbers of its held frames, of its taken
-/// frames and of its requests that were refused so far for lack of frames, and the number of its free blocks of each order.
+/// Writes the row of tenant `t` for a column: the number of lines run so far, the tenant's number, its held frames, its taken
+/// frames, its requests that were refused so far for lack of frames, and its free blocks of each order.
 fn write_row<W: Write>(out: &mut W, column: &Column, orders: usize, t: u8) -> io::Result<()>
     requires { orders ≤ ORDERS }
     ensures { WritesText result (W.contents out.old) (W.contents out.new) (λ text. text ≡ row_text orders column.now t) }

@@ -114,8 +114,8 @@ fn file_name(path: &str) -> &str {
     }
 }
 
-/// Runs all lines of a trace, and keeps the history of the machine's states. Fails if the trace cannot be read, or if it does not
-/// have fewer than [`LINES_ABOVE`] line feeds.
+/// Runs all lines of a trace, and keeps the history of the machine's states. Fails if the trace cannot be read to its end, or if
+/// it has [`LINES_ABOVE`] line feeds or more.
 fn watch<F: Feed + Drop>(
     kernel: &mut Kernel,
     feed: F,

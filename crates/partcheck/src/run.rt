@@ -26,8 +26,8 @@ pub fn run<T: Feed, R: Feed>(
     requires bootable { is_bootable config ≡ true }
     requires trace_fine { trace.old.failed ≡ false }
     requires replies_fine { replies.old.failed ≡ false }
-    // `asked` are the bytes that were read of the trace, and `told` those of the replies. All texts that begin with these bytes
-    // have this finding, and it is true of them. If it is a breach, `shown` has its line and its reply.
+    // `asked` is the text that was read of the trace, and `told` is the text that was read of the replies. All texts that begin
+    // with these have this finding, and it is true of them. If it is a breach, `shown` has the line and the reply of the breach.
     ensures found { (asked : List ℕ) × (told : List ℕ) × HasGiven trace.old trace.new asked × HasGiven replies.old replies.new told
         × IfOk result (λ finding. WhateverFollows trace.new replies.new asked told (IsFindingOf config finding))
         × IfOk result (λ finding. ShowsFinding (opening_of config) finding asked told shown.new) }

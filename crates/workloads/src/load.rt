@@ -22,7 +22,7 @@ pub enum Kind {
     /// A tenant begins again: it is reset, gets as many superblocks as at the start, and makes its caches.
     Reset,
     Pool,
-    /// A line that is no command.
+    /// A line that is no command, or a `read` with unusual blanks.
     Odd,
 }
 
@@ -141,7 +141,7 @@ pub const BYTES: Load = Load {
     ],
 };
 
-/// All commands except `reset`, and lines that are no commands.
+/// All commands except `reset`, and odd lines.
 pub const MIXED: Load = Load {
     config: SMALL,
     granted: 30,

@@ -12,7 +12,7 @@ use kernel_core::Kernel;
 use std::alloc::{AllocError, Global};
 use words_core::{AdminCommand, Answer, Body, CACHES, Request};
 
-/// The ends of lines that are no commands. A tenant's number comes before each.
+/// The ends of odd lines: seven that are no commands, and a `read` with unusual blanks. A tenant's number comes before each end.
 const ODD_LINES: [&[u8]; 8] = [
     b" frobnicate 1\n",
     b" alloc\n",

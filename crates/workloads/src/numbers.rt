@@ -2,7 +2,8 @@
 
 ghost use Rattle.std.specs.Prelude.{◌<◌};
 
-/// A xorshift generator (Marsaglia, Journal of Statistical Software 8, 2003). Numbers below a limit come from its upper 32 bits.
+/// A xorshift generator (Marsaglia, Journal of Statistical Software 8, 2003). A number below a limit is computed from the upper
+/// 32 bits of the next number.
 #[derive(Debug, Drop)]
 pub struct Numbers(u64);
 
