@@ -1,10 +1,9 @@
-//! Runs a trace on a new machine whose memory is shared by tenants. Writes a picture of the machine's frames to standard output,
-//! or a table with `--figures`.
+//! Runs a trace on a new machine whose memory is shared by tenants, and writes a picture of its frames to standard output.
 //!
 //! `framemap --order S --superblocks N --tenants T [--only T] [--columns C] [--figures] [FILE]`
 //!
-//! The exit statuses are those of `command_line::Outcome`. If FILE cannot be opened or read, its name and the system's reason are
-//! printed too.
+//! With `--figures` it writes a table of the tenants' figures instead of the picture. The exit statuses are those of
+//! `command_line::Outcome`. If FILE cannot be opened or read, its name and the system's reason are printed too.
 #![tactic(auto)]
 
 ghost use Rattle.std.specs.Prelude.{◌≡◌, OnErr};
