@@ -16,7 +16,7 @@ pub const PROGRAM: Program<'static> = Program {
     unwritten: "finding could not be written",
 };
 
-/// [`PROGRAM`], with the message of a run in which the replies cannot be read.
+/// [`PROGRAM`], with the message for replies that could not be read.
 pub const REPLIES_PROGRAM: Program<'static> = Program {
     unread: "replies could not be read",
     ..PROGRAM

@@ -66,7 +66,7 @@ const CROWDED_MACHINE: Config = Config {
 
 const FEW_SIZES: [u32; 9] = [16, 24, 64, 100, 256, 500, 1000, 2000, 3000];
 
-/// The sizes that three Linux machines use most.
+/// The object sizes that three Linux machines use most, in bytes.
 const KERNEL_SIZES: [u32; 21] = [
     16, 24, 32, 64, 80, 96, 104, 128, 152, 192, 256, 512, 584, 640, 704, 712, 784, 1024, 1152,
     2112, 4096,

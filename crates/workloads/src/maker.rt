@@ -30,12 +30,12 @@ static PATTERN: [u8; 16] = *b"\xa5\x5a\x01\xfe\xa5\x5a\x02\xfd\xa5\x5a\x03\xfc\x
 /// What a tenant holds, according to the answers.
 #[derive(Debug, Drop)]
 struct Tenant {
-    /// The first frames of its blocks.
+    /// The first frame of each of its blocks.
     blocks: Vec<u32>,
     objects: Vec<Object>,
     /// The size of the objects of each cache, in bytes.
     sizes: [u32; CACHES],
-    /// The number of superblocks that it was granted at the start.
+    /// The number of superblocks that the tenant was granted at the start.
     slots: u32,
 }
 
@@ -46,7 +46,7 @@ struct Object {
     size: u32,
 }
 
-/// What a maker uses of an answer.
+/// The part of an answer that a maker uses.
 #[derive(Clone, Copy)]
 enum Told {
     Frame(u32),
@@ -451,7 +451,7 @@ fn count_of(numbers: &[u32]) -> u32
     u32::try_from(numbers.len()).unwrap_or(1).max(1)
 }
 
-/// Returns an index below `count`, chosen by `draw`, or `None` if `count` is 0.
+/// Returns an index below `count` that is computed from `draw`, or `None` if `count` is 0.
 #[inline(always)]
 fn chosen(draw: u64, count: usize) -> Option<usize>
     ensures { MatchOption result (count ≡ 0) (λ at. at < count) }
@@ -464,7 +464,7 @@ fn chosen(draw: u64, count: usize) -> Option<usize>
     Some(at.min(count - 1))
 }
 
-/// Returns what a maker uses of an answer.
+/// Returns the part of an answer that a maker uses.
 fn told_by(answer: &Answer<'_>) -> Told {
     match answer {
         Answer::Frame(frame) => Told::Frame(*frame),
