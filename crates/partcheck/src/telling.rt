@@ -15,10 +15,10 @@ use check_core::{Breach, Finding, Shown, TakenFrame};
 use promise_core::promise::Promise;
 use std::io::{self, Write};
 
-/// The largest number of printed bytes of a trace line. Only a line that is too long has more.
+/// The largest number of bytes of a trace line that are printed. A line with more bytes has the fault `Long`.
 const MOST_LINE_BYTES: usize = 255;
 
-/// The largest number of printed bytes of a reply.
+/// The largest number of bytes of a reply that are printed.
 const MOST_REPLY_BYTES: usize = 200;
 
 /// Writes the line of a finding on a machine with this number of tenants, and flushes.
