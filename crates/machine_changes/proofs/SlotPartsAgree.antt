@@ -1,4 +1,4 @@
--- Memory, buddy systems and tables still agree after a change for one tenant, if they agree on its slots and slabs.
+-- After a change for one tenant, memory, buddy systems and tables still agree if they agree on the tenant's slots and slabs.
 use Rattle.std.proofs.Common.{◌≡◌, ◌≢◌, ℕ, ◌+◌, ◌*◌, ◌/◌, ◌%◌, ◌^◌, ◌<◌, ◌≤◌, cond, length, Some, refl, sym, ap, ◌∙◌, subst, ⊎_elim, arith}
 use Rattle.std.proofs.lemmas.Bool.{cases_eq}
 use Rattle.std.proofs.lemmas.List.{length-set}
@@ -44,8 +44,8 @@ agreed_still r r' b b' s s' machine_frame machine_frame' head key cache few g un
       rest = λ i low high. ap (λ k. is_live r' t cache k key i) kept ∙ one_same r r' t cache (kept_at s.kept machine_frame) key i same high ∙ g.rest i low high;
     }
 
--- The change affects only tenant t: all other tenants keep everything. The new holding of t is h, which has the slots of t in r'.
--- The parts agree on the slabs of t.
+-- The change affects only tenant t: all other tenants keep everything. After the change, h is the holding of t, and t has the
+-- same slots in h as in r'. The parts then agree on the slabs of t.
 pub record IsLocal (r r' : spaces.Content) (b : buddies.Content) (h : buddies.Holding) (s s' : Content) (t : ℕ) : Type 0 where
   pub unit : r'.unit ≡ r.unit
   pub superblocks : length r'.owners ≡ length r.owners

@@ -48,7 +48,7 @@ module _ (r : spaces.Content) (b : buddies.Content) (s : Content) (t u m : ℕ) 
   slots_now : (v : ℕ) → spaces.superblock_at r'.slots t v ≡ cond (eqb v u) None (spaces.superblock_at r.slots t v)
   slots_now v = h.space.own_slots.take_back t u m here v
 
-  -- no slab begins in slot u, because the slab's first frame would be a taken frame of the slot
+  -- no slab begins in slot u, because the slab's first frame would be taken, and slot u has no taken frame
   no_slab : (f : ℕ) → f / 2 ^ s.top ≡ u → has_slab s (machine_frame_of s.top r.slots t f) ≡ false
   no_slab f e = false_from_ne_true (has_slab s (machine_frame_of s.top r.slots t f)) (λ has.
       let st : IsSteady r b s t = steady_of r b s h t tenant in

@@ -82,11 +82,12 @@ slab_from r s t c f n head cache less index cached under place = record {
   listed = ap (is_of_cache (index_of_cache t c) f) place ∙ and_from (head / 3 == index_of_cache t c) (f == f) (eq-eqb (head / 3) (index_of_cache t c) index) (eq-eqb f f refl);
 }
 
--- if frame f of tenant t and frame g of tenant u have the same machine frame, u is t and g is f
+-- frame g of tenant u is frame f of tenant t
 pub record IsOneOwner (t f u g : ℕ) : Type 0 where
   pub tenant : u ≡ t
   pub frame : g ≡ f
 
+-- if frame f of tenant t and frame g of tenant u have the same machine frame, u is t and g is f
 pub one_owner : (r : spaces.Content) (top t f u g n : ℕ) → IsOneToOne r → machine_frame_of top r.slots t f ≡ Some n → machine_frame_of top r.slots u g ≡ Some n
     → IsOneOwner t f u g
 one_owner r top t f u g n apart e e' =

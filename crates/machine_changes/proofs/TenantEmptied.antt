@@ -32,7 +32,7 @@ same_cache s' s t v c stays differ = ⊎_elim below above (cases_lt c MOST_CACHE
         ap (λ w. cond w (cache_in s'.caches (index_of_cache v c)) None) (le-ltb c MOST_CACHES more)
         ∙ sym (ap (λ w. cond w (cache_in s.caches (index_of_cache v c)) None) (le-ltb c MOST_CACHES more))
 
--- if `unless_gone` returns a place p, p is the place that it was given, and the index of p's cache does not satisfy `gone`
+-- if `unless_gone` returns a list entry p, it was given p, and the index of p's cache does not satisfy `gone`
 pub unless_some : (gone : ℕ → Bool) (place : Option (ℕ × ℕ)) (p : ℕ × ℕ) → unless_gone gone place ≡ Some p → (place ≡ Some p) × (gone (p.0 / 3) ≡ false)
 unless_some gone None p e = absurd (some_none (sym e))
 unless_some gone (Some q) p e = go (gone (q.0 / 3)) refl e
