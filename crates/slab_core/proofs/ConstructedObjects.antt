@@ -80,7 +80,7 @@ module _ (cache : own.Cache) (f colour : ℕ) (cut : IsLayout cache.layout.size 
   pub fit : IsFit (layout_numbers cache) colour
   fit = subst (λ x. IsFit (layout_numbers cache) x) (sym is.1) (cut.fits is.0)
 
-  -- if i < n, the end of object i is at or before the offset of index n
+  -- if i < n, object i ends at or before the offset of object n, even if the slab has no object n
   pub ends : (i n : ℕ) → i < n → object_offset (layout_numbers cache) colour i + cache.layout.size ≤ object_offset (layout_numbers cache) colour n
   ends i n less =
       let rows : (i + 1) * (layout_numbers cache).chunk ≤ n * (layout_numbers cache).chunk = mul-le-mul_right _ (omega arith) in

@@ -164,7 +164,8 @@ left_of {r' = r'} {b' = b'} {s = s} {s' = s'} {t = t} c {cache = cache} cached t
       within = among_all r' b' s' t c agree (subst (λ n. t < n) (sym (ap (λ x. length x.slots) spares.space)) tenant) small;
     }
 
--- `frames` is the answer of `destroy_step`, and without cache c the parts show the machine after `destroy_step`
+-- `frames` is the answer of `destroy_step`. Once the entry of cache c is removed, the parts show the machine after
+-- `destroy_step`.
 pub record IsDestroyed (r : spaces.Content) (b : buddies.Content) (s : Content) (t c : ℕ) (m : Machine) (frames : ℕ) : Type 0 where
   pub answer : Ok frames ≡ (destroy_step c m).answer
   pub shown : ShowsMachine r b (with_cache s t c None) t (destroy_step c m).machine

@@ -53,7 +53,8 @@ none_at c k (x ∷ xs) (low, rises) less =
 abbrev sum_of : List Cache → ℕ
 sum_of xs = frames_of (flat_map empty_blocks xs)
 
--- counting cache c too, if the list has it, adds the frames in its empty slabs to the count for the caches below c
+-- counting cache c as well adds the frames in its empty slabs to the count for the caches with numbers below c, or adds 0 if the
+-- list has no cache c
 pub frames_next : (c k : ℕ) (xs : List Cache) → RisesFrom k (map (λ x. x.number) xs)
     → frames_of (flat_map empty_blocks (below (c + 1) xs)) ≡ frames_of (flat_map empty_blocks (below c xs)) + empty_frames_in (at (λ x. x.number) c xs)
 frames_next c k [] rises = refl

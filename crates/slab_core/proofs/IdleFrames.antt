@@ -50,7 +50,7 @@ module _ (r : spaces.Content) (b : buddies.Content) (s : Content) (t : ℕ) (st 
         within = subst (λ j. HasFrame (block f j) x) order has;
       }
 
-  -- if a taken block begins at a border, its end is a border too
+  -- if a taken block begins at a border (`IsBorder`), the frame after the block is a border too
   module _ (f k : ℕ) (taken : buddies.taken_of (buddies.holding_of t b) f ≡ Some k) (border : IsBorder b t f) where
     border_past : IsBorder b t (f + 2 ^ k)
     border_past g j is less = ⊎_elim

@@ -58,8 +58,8 @@ impl Slabs {
         has_free(buddy, t, k) || view.would_fit_in_slabs(&mut [0; MOST_WORDS], k)
     }
 
-    /// Returns the same as [`Slabs::would_fit`], if no free block is large enough. Stores the set of refused blocks in `self`,
-    /// not on the stack.
+    /// Returns the same as [`Slabs::would_fit`], for a caller that has found no free block large enough. Stores the set of
+    /// refused blocks in `self`, not on the stack.
     #[cold]
     #[inline(never)]
     pub(crate) fn fits_by_need(&mut self, space: &Space, buddy: &Buddy, t: u8, k: u8) -> bool
@@ -145,8 +145,8 @@ impl View<'_> {
         false
     }
 
-    /// Returns true if a block of order `k` would fit around an empty slab of cache `c`. Skips the blocks in the set `refused`,
-    /// and adds each block that it refuses to the set.
+    /// Returns true if a block of order `k` would fit around an empty slab of cache `c`. Skips the blocks in the set `refused`.
+    /// Each block that the search refuses is added to this set.
     fn would_fit_in_cache(self, refused: &mut [u64], c: u32, k: u8) -> bool
         requires tenant { self.tenant < length self.space.now.slots }
         requires cache { c < MOST_CACHES }

@@ -62,7 +62,8 @@ pub use taking::Taken;
 #[derive(Debug, Drop)]
 pub struct Slabs {
     tables: Tables,
-    /// The set of blocks that a search has refused: at least one bit for each frame of the machine.
+    /// The set of blocks that a search has refused. It has at least one bit for each frame of the machine, which is enough for
+    /// the blocks of any order.
     refused: Vec<u64>,
 }
 

@@ -147,7 +147,7 @@ impl Slabs {
     /// Returns true if a slab begins at frame `frame` of tenant `t`. Returns false if the tenant does not hold the slot of the
     /// frame.
     ///
-    /// `space` has to be the memory in which these slabs lie. So it has as many frames as `self` has machine frames.
+    /// `space` has to be the memory in which these slabs lie, with as many frames as `self` has machine frames.
     pub fn is_slab(&self, space: &Space, t: u8, frame: u32) -> bool
         requires tenant { t < length space.now.slots }
         requires machine_frames { length self.now.lists.places ≡ length space.now.owners * 2 ^ self.now.top }

@@ -258,7 +258,7 @@ impl Slabs {
         }
     }
 
-    /// Allocates the first free object of a slab, and returns what a caller needs to lend it.
+    /// Allocates the first free object of a slab, and returns what a caller needs to lend the object's bytes.
     #[inline(always)]
     fn hand_out(
         &mut self,

@@ -110,7 +110,7 @@ returns-clause-shows c = λ m y z h ey ez.
     (marked_shows _ _ x.buddy.now _ _ _ _ (object a) true m y z (counted (goal.at.returns-clause-shows c).After-offset).marked
     c.laws_with.ensures.steady c.requires.slab (object_below (next a)) ey ez h)
 
--- `mark_least_free` changes only bytes of the memory
+-- in the memory, `mark_least_free` changes nothing except bytes
 space_is : (c : After-offset) → c.mark_least_free-index.new.space ≡ record c.args.space.now { banks = c.mark_least_free-index.new.space.banks }
 space_is c = c.mark_least_free-index.ensures.turned.space
 
