@@ -63,7 +63,7 @@ private_lines limit order superblocks tenants t trace =
     texts_for t (private_run limit order own empty_machine).replies
 
 -- In the output of any trace, the lines of a tenant are the lines of its private machine. With at most 2 ^ 64 tenants, different
--- numbers have different decimals, so a line of one tenant never counts as a line of another.
+-- numbers are printed differently, so a line of one tenant never counts as a line of another.
 abbrev pub OwnLines : Type 0
 OwnLines = (limit order superblocks tenants t : ℕ) (trace : List ℕ) → tenants ≤ 2 ^ 64 → t < tenants →
     lines_for t (output_of limit order trace (opening_world superblocks tenants))
@@ -88,7 +88,7 @@ abbrev pub OwnShown : Type 0
 OwnShown = (limit order t : ℕ) (trace : List ℕ) (w : World) → length w.machines ≤ 2 ^ 64 → t < length w.machines →
     shown_lines (Some t) limit order (lines_of_trace trace) w ≡ with_line_feeds (lines_for t (output_of limit order trace w))
 
--- so the shown bytes, cut at their LFs, are the lines of tenant t in the whole output
+-- if only tenant t is shown, the shown bytes, cut at their LFs, are the lines of t in the whole output
 abbrev pub OwnLinesShown : Type 0
 OwnLinesShown = (limit order t : ℕ) (trace : List ℕ) (w : World) → length w.machines ≤ 2 ^ 64 → t < length w.machines →
     lines_of_trace (shown_lines (Some t) limit order (lines_of_trace trace) w) ≡ lines_for t (output_of limit order trace w)
@@ -102,7 +102,7 @@ EndedAllButTail = (given : List ℕ) →
 abbrev pub EndedLinesStay : Type 0
 EndedLinesStay = (given more : List ℕ) → (rest : List (List ℕ)) × (lines_of_trace (given ++ more) ≡ ended_lines given ++ rest)
 
--- if more bytes are added to a trace, what it shows still begins with what the lines that ended in LF show
+-- if more bytes are added to a trace, the text shown for it still begins with the text shown for the lines that ended in LF
 abbrev pub ShownStays : Type 0
 ShownStays = (only : Option ℕ) (limit order : ℕ) (given more : List ℕ) (w : World) →
     (rest : List ℕ) × (shown_lines only limit order (lines_of_trace (given ++ more)) w
