@@ -126,8 +126,8 @@ full_by_ones bytes at ones within small =
     sym (ap (λ n. bit_at (get_or bytes n 0) ((8 * at + j) % 8)) byte ∙ ap (bit_at (get_or bytes at 0)) bit)
     ∙ (eqb-true (bit_at (get_or bytes ((8 * at + j) / 8) 0) ((8 * at + j) % 8)) 1 (ones (8 * at + j) (omega arith)) ∙ sym (bit_at_ones 8 j less)))
 
--- Let i be at most n, and let p be true for the numbers from k to k + i - 1. If p is false for k + i, or if i is n, the search for
--- a false flag among the n flags of p from k on returns i.
+-- Let i be at most n, and let p be true for the numbers from k to k + i - 1. If p is false for k + i, or if i is n, the search
+-- for a false flag among the n flags of p from k on returns i.
 pub first_clear : (k n i : ℕ) (p : ℕ → Bool) → i ≤ n → ((j : ℕ) → k ≤ j → j < k + i → p j ≡ true) → (i < n → p (k + i) ≡ false) → position_or_len not (flags_from k n p) ≡ i
 first_clear k zero i p few ones clear = omega arith
 first_clear k (suc n) zero p few ones clear =

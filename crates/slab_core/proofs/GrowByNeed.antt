@@ -68,7 +68,8 @@ module _ {r r' : spaces.Content} {b b' : buddies.Content} {s s' : Content} {t : 
   pub reaped_shown : (m : Machine) → ShowsMachine r b s t m → ShowsMachine r' b' s' t (reaped m)
   reaped_shown m h = reaped_shows r r' b b' s s' t (idle_at (λ i. true) r s t) m g st h (idle_empty r b s t m w a h)
 
-  -- if no free block was large enough, and a slab is made after the empty slabs are freed, the machine has grown on demand
+  -- Let no free block be large enough. The block of order k that is found after the empty slabs are freed is then the block that
+  -- is found on demand. If slab o is made in this block, the machine has grown on demand.
   module _ (k : ℕ) (o : Option Slab) (none : (m : Machine) → ShowsMachine r b s t m → choice s.top m k ≡ None)
       (chosen : (m : Machine) → ShowsMachine r' b' s' t m → choice s'.top m k ≡ option_map (λ p. p.first) o) where
     pub chosen_by_need : (m : Machine) → ShowsMachine r b s t m → choice_by_need s.top k m ≡ option_map (λ p. p.first) o

@@ -25,8 +25,8 @@ abbrev pub found_in : own.Cache → Object → Found
 found_in cache o = found cache o.slab.first o.slab.machine_frame o.index
 
 -- The bit of object o of tenant t is flipped: o is live if it was free, and free if it was live. No other bit of the slab's
--- record changes, and no byte of memory outside it. The other slabs' stored states, and this slab's colour and its stored number
--- of live objects, are unchanged.
+-- record changes, and no byte of memory outside the record. The other slabs' stored states, and this slab's colour and stored
+-- number of live objects, are unchanged.
 pub record IsTurned (r r' : spaces.Content) (s s' : Content) (t : ℕ) (o : Found) : Type 0 where
   pub turned : is_live r' t o.cache (kept_at s'.kept o.machine_frame) o.first o.index
       ≡ not (is_live r t o.cache (kept_at s.kept o.machine_frame) o.first o.index)

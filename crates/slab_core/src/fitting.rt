@@ -36,7 +36,7 @@ fn has_free(buddy: &Buddy, t: u8, k: u8) -> bool
 }
 
 impl Slabs {
-    /// Returns true if a block of order `k` would be found for tenant `t` after all empty slabs of the tenant were freed.
+    /// Returns true if a block of order `k` would be found for tenant `t` if all empty slabs of the tenant were freed.
     ///
     /// Reads only counts and the heads of lists if a large enough block is free, or if no slab is empty. Otherwise checks only
     /// the frames of those blocks of order `k` in which empty slabs begin.

@@ -72,8 +72,8 @@ impl Slabs {
             .is_some()
     }
 
-    /// Returns the live object that contains the `len` bytes from `place` on, or `None` if no live object does or `len` is 0. The
-    /// caller has already looked up the taken block around `place`, as for [`Slabs::object_in`].
+    /// Returns the live object that contains the `len` bytes from `place` on. Returns `None` if no live object contains them all,
+    /// or if `len` is 0. The caller has already looked up the taken block around `place`, as for [`Slabs::object_in`].
     #[inline(always)]
     pub fn object_around(
         &self,
