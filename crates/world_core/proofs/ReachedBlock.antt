@@ -1,5 +1,5 @@
--- If a machine that a private run leaves is ample, it refuses neither a block nor an object. After any trace, a tenant with an
--- ample machine gets a block.
+-- If `IsAmple` is true of the machine after a private run, this machine refuses neither a block nor an object. After any trace, a
+-- tenant with such a machine gets a block.
 use Rattle.std.proofs.Common.{◌≡◌, ℕ, List, Some, slice_get, sym, ap, subst, ◌∙◌}
 use Rattle.std.proofs.lemmas.Option.{same_Some}
 use Rattle.model_core.specs.Machine.{Machine}

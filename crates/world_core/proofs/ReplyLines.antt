@@ -1,5 +1,5 @@
--- No line of a reply has an LF inside, so cutting the reply's text at its LFs returns the lines. No line begins with the numbers
--- of two tenants.
+-- No line of a reply has an LF inside, so cutting the reply's text at its LFs returns the lines. A line that begins with
+-- the number of one tenant and `>` does not begin with the number of another tenant and `>`.
 use Rattle.model_core.specs.declared.owner.Owner.{Owner}
 use Rattle.std.proofs.Common.{◌≡◌, ℕ, zero, suc, ◌+◌, Option, Some, None, is_none, count_by, length, slice_index, ◌<◌, ◌≤◌, ◌≢◌, ◌==◌, ◌/◌, ◌%◌, ◌&&◌, not, nat_eq, nat_le, Bool, true, false, if◌then◌else◌, List, [], ◌∷◌, ◌++◌, map, codes, decimal, refl, ap, sym, subst, ◌∙◌, arith, append_assoc}
 use Rattle.std.specs.List.{list_all, concat, starts_with, onto_first}

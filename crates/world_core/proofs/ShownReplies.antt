@@ -1,5 +1,5 @@
--- With `only` t, exactly the lines of tenant t are shown. The lines that end in LF in a prefix of a trace show a prefix of what
--- the whole trace shows.
+-- With `only` t, exactly the lines of tenant t are shown. For each prefix of a trace, the output shown for its lines that
+-- end in LF is a prefix of the output shown for the whole trace.
 use Rattle.std.proofs.Common.{◌≡◌, ℕ, zero, suc, ◌<◌, ◌≤◌, ◌^◌, ◌==◌, Bool, true, false, List, [], ◌∷◌, ◌++◌, length, Option, Some, None, Result, Ok, Err, refl, ap, sym, ◌∙◌, arith, append_assoc}
 use Rattle.std.specs.Prelude.{if◌then◌else◌, Contains}
 use Rattle.std.specs.List.{onto_first}
@@ -92,7 +92,7 @@ no_more : (b : ℕ) (tail : List ℕ) → b == 10 ≡ false → (Contains tail 1
 no_more b tail other none (zero, below, here) = eqb-false b 10 other here
 no_more b tail other none (suc i, below, here) = none (i, omega arith, here)
 
--- if bytes consist of lines that end in LF and a tail without LF, they still do after one more byte is put in front
+-- if bytes consist of lines, each with an LF at its end, and then a tail without LF, so do the bytes with one more byte in front
 ended_tail : (b : ℕ) (test : Bool) → b == 10 ≡ test → (ended : List (List ℕ)) (given tail : List ℕ) → given ≡ with_line_feeds ended ++ tail → (Contains tail 10 → ⊥)
     → (tail' : List ℕ) × (b ∷ given ≡ with_line_feeds (if test then [] ∷ ended else onto_ended b ended) ++ tail') × (Contains tail' 10 → ⊥)
 ended_tail b true is ended given tail split none = (tail, ap (λ c. c ∷ given) (eqb-true b 10 is) ∙ ap (λ bytes. 10 ∷ bytes) split, none)

@@ -101,7 +101,7 @@ report_fronted front report =
 alone : List ℕ → List (List ℕ)
 alone row = row ∷ []
 
--- the lines of a body with a front are its lines with the empty front, each with the front put before it
+-- each line of a body with a front is the front, followed by the body's line with the empty front
 fronted : (front : List ℕ) (body : Body) → body_texts front body ≡ map (λ row. front ++ row) (body_texts [] body)
 unfolding alone
 fronted front (Granted tenant slot superblock) =
@@ -190,7 +190,8 @@ rows_for t (Tenant named) body small small' =
 texts_of_reply : (reply : Reply) → AreTexts (body_texts (addressee_text reply.addressee) reply.body)
 texts_of_reply reply = body_text _ reply.body (addressee_is_text reply.addressee)
 
--- tenant t's lines in a reply's text and a rest are those of the reply, if it is addressed to t, and then those of the rest
+-- If a reply's text is followed by a rest, tenant t's lines in both together are the lines of the reply, if it is addressed to t,
+-- and then t's lines in the rest.
 reply_lines : (t : ℕ) (reply : Reply) (rest : List ℕ) → t < 2 ^ 64 → IsSmall reply.addressee
     → lines_for t (text_of reply ++ rest) ≡ texts_for t (if_for t reply.addressee reply.body) ++ lines_for t rest
 reply_lines t reply rest small small' =
@@ -198,7 +199,8 @@ reply_lines t reply rest small small' =
     ∙ filter-append (tells t) (body_texts (addressee_text reply.addressee) reply.body) (lines_of_trace rest)
     ∙ ap (λ rows. rows ++ lines_for t rest) (rows_for t reply.addressee reply.body small small')
 
--- A step of the world keeps the number of tenants. If there are at most 2 ^ 64 tenants, `IsSmall` is true of its addressee.
+-- A step of the world keeps the number of tenants. If there are at most 2 ^ 64 tenants, `IsSmall` is true of the addressee of
+-- the step's reply.
 
 pub record StaysNumbered (w : World) (s : WorldStep) : Type 0 where
   pub tenants : length s.world.machines ≡ length w.machines
@@ -262,7 +264,7 @@ abbrev pub Tell : ℕ → ℕ → ℕ → List (List ℕ) → Type 0
 Tell limit order t lines = (w : World) → length w.machines ≤ 2 ^ 64
     → lines_for t (shown_lines None limit order lines w) ≡ texts_for t (replies_to t (history limit order w (events_of lines)))
 
--- if `Tell` is true of some lines, tenant t's lines of output are the texts of its replies also with one more line in front
+-- if `Tell` is true of some lines, tenant t's lines of output are the texts of its replies also if one more line runs before them
 reading_tells : (limit order t : ℕ) (reading : Result (Option Event) LineFault) (lines : List (List ℕ)) (w : World) → t < 2 ^ 64
     → length w.machines ≤ 2 ^ 64 → Tell limit order t lines
     → lines_for t (shown_reading None limit order reading w ++ shown_lines None limit order lines (world_after limit order w (event_in reading)))

@@ -51,7 +51,7 @@ ReachedWellFormed-met law = law 32 3 entries are_requests
 ReachedSound-met : ReachedSound → IsSound 3 (holds machine) (taken_in machine)
 ReachedSound-met law = law 32 3 entries are_requests
 
--- After these entries, frame 0 is taken, and frame 1 lies in one free block.
+-- After the entries of `one_block`, frame 0 is taken, and frame 1 lies in one free block.
 
 abbrev one_block : List Entry
 one_block = Grant ∷ Ask (Command.Alloc 0) ∷ []
@@ -77,7 +77,7 @@ ReachedJoins-met : ReachedJoins → (j : ℕ) × JoinsTo 3 (holds (reached_machi
 unfolding command_step alloc_step free_step by_need reaped choice taken_blocks empty_machine next_slot after_grant private_step
 ReachedJoins-met law = let joins = law 32 3 0 0 one_block (tt, (tt, tt)) refl in (joins.0, joins.1)
 
--- The first two objects of the slab have indices 0 and 1.
+-- The slab that `entries` leaves, its cache, and its first two objects: `first_object` has index 0, and `object` has index 1.
 
 abbrev the_slab : Slab
 the_slab = record { first = 0; colour = 0; live = replicate 63 false }
@@ -114,7 +114,7 @@ ReachedRecordsFree-met : ReachedRecordsFree → (0 ≤ 100) × (100 < 4064)
 unfolding layout_of
 ReachedRecordsFree-met law = law 32 3 entries are_requests object it_is_there refl 100 its_byte
 
--- The only slab is empty, so the whole slot is free for a block ..
+-- The only slab of `machine` is empty, so the whole slot is free for a block ..
 
 is_ample : IsAmple 3 3 machine
 unfolding computed_machine

@@ -45,7 +45,7 @@ abbrev pub EntriesAreOperations : Type 0
 EntriesAreOperations = (limit order : ℕ) (entries : List Entry) (m : Machine) →
     (private_run limit order entries m).machine ≡ run limit order (flat_map operations_in entries) m
 
--- the machine that the private run of these entries leaves, from the empty machine
+-- the machine after the private run of these entries from the empty machine
 abbrev pub reached_machine : ℕ → ℕ → List Entry → Machine
 reached_machine limit order entries = (private_run limit order entries empty_machine).machine
 
@@ -96,12 +96,12 @@ ReachedJoins = (limit order first k : ℕ) (entries : List Entry) → AreRequest
     (j : ℕ) × JoinsTo order (holds m) (taken_in m) first k j × ((b : Block) →
     (IsFreeIn order (free_step first m).machine b ↔ IsFreeOnceJoined (IsFreeIn order m) first k j b))
 
--- If two objects of the machine share a byte, they are the same object ..
+-- if two objects of the machine share a byte, they are the same object
 abbrev pub ReachedApart : Type 0
 ReachedApart = (limit order : ℕ) (entries : List Entry) → AreRequests entries → let m = reached_machine limit order entries in
     (a b : Object) → IsObject m a → IsObject m b → (place : ℕ) → HasByte a place → HasByte b place → a ≡ b
 
--- .. and an object of a small slab lies in the slab's frame, below the control record.
+-- an object of a small slab lies in the slab's frame, below the control record
 abbrev pub ReachedRecordsFree : Type 0
 ReachedRecordsFree = (limit order : ℕ) (entries : List Entry) → AreRequests entries → let m = reached_machine limit order entries in
     (object : Object) → IsObject m object → is_small (layout object.cache).chunk ≡ true
@@ -136,8 +136,8 @@ ReachedObject = (limit order number : ℕ) (entries : List Entry) (c : Cache) �
     cache_of m number ≡ Some c → IsAmple order (layout c).order m
     → (place : ℕ) × ((command_step limit order (Command.Take number) m).answer ≡ Body.Object place)
 
--- So nobody is starved by others: after any trace, if a tenant's machine meets this condition, the tenant gets a block of order
--- k, whatever the others did.
+-- So nobody is starved by others: after any trace, if a tenant's machine meets the condition of `ReachedBlock`, the tenant gets a
+-- block of order k, whatever the others did.
 abbrev pub NobodyStarves : Type 0
 NobodyStarves = (limit order superblocks tenants t k : ℕ) (trace : List ℕ) (m : Machine) → t < tenants →
     let w = world_after limit order (opening_world superblocks tenants) (events_of (lines_of_trace trace)) in

@@ -81,7 +81,8 @@ reset_step t w (Some m) = record {
   };
 }
 
--- the slot gets the first superblock without an owner, and the superblock that it had loses its owner
+-- The slot gets the first superblock without an owner, and its former superblock no longer has an owner. The move is refused if
+-- every superblock has an owner.
 abbrev pub moved_to : ℕ → ℕ → World → Option ℕ → WorldStep
 moved_to t slot w None = answer Addressee.Admin (Body.Refused Refusal.PoolEmpty) w
 moved_to t slot w (Some superblock) = record {
@@ -89,7 +90,8 @@ moved_to t slot w (Some superblock) = record {
   world = record w { owners = slice_set (map (given_up (is_owner t slot)) w.owners) superblock (Some (owned_by t slot)) };
 }
 
--- the step of a move, which changes no machine; it is refused if tenant t does not exist or does not hold the slot
+-- The step of a move, which changes no machine. The move is refused if tenant t does not exist or does not hold the slot, or if
+-- every superblock has an owner.
 unfoldable pub move_step : ℕ → ℕ → World → Option Machine → Option ℕ → WorldStep
 move_step t slot w None free = answer Addressee.Admin (Body.Refused Refusal.NoTenant) w
 move_step t slot w (Some m) free =
