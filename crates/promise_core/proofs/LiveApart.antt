@@ -37,7 +37,7 @@ fewer order h h' l used held numbers = record {
   numbers = numbers;
 }
 
--- used blocks still lie apart if one more block is used that is aligned, in a held slot, and shares no frame with a used block
+-- used blocks still lie apart after one more block is used, if it is aligned, in a held slot, and shares no frame with the others
 more : (order : ℕ) (h h' : Holdings) (new : Option ℕ) (n : Block) → IsLaid order h
     → ((by : Option ℕ) (b : Block) → Used h' by b → Used h by b ⊎ ((by ≡ new) × (b ≡ n)))
     → ((u : ℕ) → has_slot h u ≡ true → has_slot h' u ≡ true) → IsAligned order n → has_slot h (n.first / 2 ^ order) ≡ true
@@ -107,7 +107,7 @@ live_numbers h number change own c d i j e =
     ∙ e ∙ ap (λ y. y.number) (sym z.2) ∙ live_number (z.0.number == number) z.0 (change z.0.live)) in
     sym x.2 ∙ ap (λ (y : KnownCache). if y.number == number then record y { live = change y.live } else y) same ∙ z.2
 
--- the user is the cache with this number, and the block is the slab of an object that is live in it after the change
+-- the user is the cache with this number, and the block is the slab of an object of this cache that is live after the change
 abbrev Changed : Holdings → ℕ → (List ℕ → List ℕ) → Option ℕ → Block → Type 0
 Changed h number change by b = (c : KnownCache) × (p : ℕ) × IsIn c h.caches × (c.number ≡ number) × IsIn p (change c.live) × (by ≡ Some number) × (b ≡ slab_around c p)
 

@@ -34,7 +34,7 @@ pub all_from : {X : Type 0} (p : X → Bool) (xs : List X) → ((x : X) → IsIn
 all_from p [] f = refl
 all_from p (x ∷ xs) f = and_from (p x) (list_all p xs) (f x (inl refl)) (all_from p xs (λ y i. f y (inr i)))
 
--- if a list is filtered by q first, no more of its elements pass p
+-- filtering a list by q does not increase the number of its elements that pass p
 fewer_left : {X : Type 0} (p q : X → Bool) (xs : List X) → length (filter p (filter q xs)) ≤ length (filter p xs)
 fewer_left p q [] = omega arith
 fewer_left {X} p q (x ∷ xs) = go (p x) refl (q x) (fewer_left p q xs)
@@ -236,7 +236,7 @@ pub around_is : (b : Block) (x : ℕ) → b.first % 2 ^ b.order ≡ 0 → HasFra
 around_is b x aligned has = ap (λ f. block f b.order)
     (ap (λ n. n * 2 ^ b.order) (sym (number_is b.order x) ∙ number_of_frame b.first b.order x aligned has) ∙ first_is b.first b.order aligned)
 
--- the test of `can_be_taken`, with slab b in place of the slab around the place
+-- the test of `can_be_taken`, but with block b as the slab, instead of the slab that contains the place
 abbrev is_takable : ℕ → Holdings → KnownCache → ℕ → Block → Bool
 is_takable order h c place b = (place % c.align == 0 && (nat_lt 0 (length (live_of_slab c b.first)) || can_stand order h b))
     && (nat_lt (length (live_of_slab c b.first)) c.count && (list_all (are_apart c place) (live_of_slab c b.first)

@@ -1,5 +1,5 @@
--- A step changes only the state of the tenant that its event names. A byte that is left at a place after a step was left there
--- before, or the step put it there.
+-- A step changes only the state of the tenant that its event names. If a byte is left at a place after a step, it was left there
+-- before the step, or the step put it there.
 use Rattle.std.proofs.Common.{◌≡◌, ℕ, zero, suc, ◌+◌, ◌-◌, ◌<◌, ◌≤◌, Bool, true, false, not, ◌&&◌, ◌||◌, List, [], ◌∷◌, length, replicate, Option, Some, None, slice_get, slice_set, refl, ap, sym, subst, ◌∙◌, ◌⊎◌, inl, inr}
 use Rattle.std.specs.Prelude.{nat_le, nat_lt, slice_index, if◌then◌else◌, ◌==◌}
 use Rattle.std.specs.Option.{option_map_or}

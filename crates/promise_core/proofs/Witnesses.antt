@@ -23,7 +23,7 @@ known_of (Err promise) = opening 32 3 3 2
 abbrev known : Known
 known = known_of (all_allowed begun (Ok (opening 32 3 3 2)))
 
--- The run leaves a page block beside the slab of an object.
+-- The run `begun` leaves a page block and a slab with a live object.
 
 abbrev the_state : State
 the_state = unwrap_or (slice_get known.states 0) opening_state

@@ -50,19 +50,19 @@ may_all_be h cells holder place [] = true
 may_all_be h cells holder place (byte ∷ bytes) =
     may_be holder (known_fresh_byte h holder place) (cells place) byte && may_all_be h cells holder (place + 1) bytes
 
--- the cells after these bytes of the holder are read or written at the places from `begin` on
+-- the new cells when these bytes of the holder are read or written at the places from `begin` on
 abbrev pub with_bytes : Holder → ℕ → List ℕ → Cells → Cells
 with_bytes holder begin bytes cells place =
     if nat_le begin place && nat_lt place (begin + length bytes) then
     Some (record { holder = holder; byte = slice_index bytes (place - begin); sure = true })
     else cells place
 
--- the cells after those whose place and holder pass the test are put in doubt
+-- the same cells, except that each one whose place and holder pass the test is in doubt
 abbrev pub doubted : (ℕ → Holder → Bool) → Cells → Cells
 doubted test cells place =
     option_map (λ (cell : Cell). record cell { sure = cell.sure && not (test place cell.holder) }) (cells place)
 
--- the cells after those whose place and holder pass the test are forgotten
+-- the cells without those whose place and holder pass the test
 abbrev pub without : (ℕ → Holder → Bool) → Cells → Cells
 without test cells place = option_and_then (λ (cell : Cell). if test place cell.holder then None else Some cell) (cells place)
 

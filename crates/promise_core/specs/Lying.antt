@@ -40,8 +40,8 @@ live_of_slab c f = filter (λ p. (slab_around c p).first == f) c.live
 abbrev pub OnGrid : KnownCache → ℕ → ℕ → Type 0
 OnGrid c origin p = (j : ℕ) × (j < c.count) × (p ≡ origin + j * c.chunk)
 
--- from an aligned origin on, the slab at frame f has space for all its objects, and each of its live objects begins a multiple of
--- the chunk after the origin
+-- the slab at frame f has space for all its objects from an aligned origin on, and each of its live objects begins at the origin
+-- plus a multiple of the chunk
 pub record HasGrid (c : KnownCache) (f : ℕ) : Type 0 where
   pub origin : ℕ
   pub aligned : origin % c.align ≡ 0

@@ -239,7 +239,7 @@ objects (Event.Admin (AdminCommand.Reset t)) body w s = true
 objects (Event.Admin (AdminCommand.Move t u)) body w s = true
 objects (Event.Admin AdminCommand.Pool) body w s = true
 
--- a new cache has a number below the limit that no other cache has, and at each colour a slab's objects fit into the slab
+-- a new cache has an unused number, which is below the limit, and at each colour a slab's objects fit into the slab
 abbrev pub new_layout : Event → Body → Known → State → Bool
 new_layout (Event.Tenant t (Command.Cache size align pattern)) (Body.Cache number chunk q n colours) w s =
     (nat_lt number w.limit && is_none (known_cache s.has number)) && ((nat_le size chunk && (chunk % align == 0 && nat_le q w.order))
@@ -339,7 +339,7 @@ bytes (Event.Admin (AdminCommand.Reset t)) body w s = true
 bytes (Event.Admin (AdminCommand.Move t u)) body w s = true
 bytes (Event.Admin AdminCommand.Pool) body w s = true
 
--- the number of frames in blocks, if the list has the number of blocks of each order, from order 0 on
+-- the total number of frames of some blocks; the list says how many of them have each order, from order 0 on
 abbrev pub frames_of_counts : List ℕ → ℕ
 frames_of_counts [] = 0
 frames_of_counts (n ∷ ns) = n + 2 * frames_of_counts ns
