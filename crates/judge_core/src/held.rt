@@ -205,8 +205,8 @@ impl Held {
         ensures value { result ≡ length (filter (is_vacant self.now) (blocks_of_slot order k slot)) }
         ensures most { result ≤ 256 }
     {
-        // `taken_in` searches each cache, and does a short search for each slab. That costs less than testing 64 or more frames
-        // one by one.
+        // In a slot of 64 frames or more, single frames are counted with `taken_in`. It searches each cache once, with a short
+        // search for each slab, which costs less than testing the frames one by one.
         if k > 0 || order < 6 {
             let blocks = 1u32 << order.saturating_sub(k);
             return self.count_vacant_from(k, u32::from(slot) * blocks, blocks);

@@ -13,8 +13,8 @@ use model_core::limits::MOST_CACHES;
 use std::alloc::{AllocError, Global};
 
 impl Held {
-    /// Returns empty holdings, with capacity for `slots` slots of `2^order` frames and everything that fits into them. Fails if
-    /// memory runs out.
+    /// Returns empty holdings, with capacity for `slots` slots of `2^order` frames, a page block in each frame, and `MOST_CACHES`
+    /// caches. Fails if memory runs out.
     pub fn new(alloc: Global, order: u8, slots: u16) -> Result<Held, AllocError>
         requires order { order ≤ MOST_ORDER }
         requires slots { slots ≤ MOST_SUPERBLOCKS }

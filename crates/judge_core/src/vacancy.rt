@@ -129,7 +129,8 @@ impl HeldCache {
         requires { IsNonDecreasing places.now }
         ensures { result.now ≡ drop (prefix_len (λ p. nat_lt p (FRAME_BYTES * (slab.now.first + 2 ^ slab.now.order))) places.now) places.now }
     {
-        // A slab of a sound machine has at most `count` live objects, so the first place after it is near the front of `places`.
+        // After allowed replies, a slab has at most `count` live objects, so the first place after the slab is near the front of
+        // `places`.
         &places[count_below_near(places, self.count() as usize, slab.end_byte())..]
     }
 }
