@@ -9,8 +9,8 @@ pub fn live_apart()
     ensures { LiveApart }
 {}
 
-/// After allowed replies, bytes are known only at places in slots that the tenant holds. So a checker can forget the bytes of a
-/// slot when the slot is taken back.
+/// After allowed replies, bytes are known only at places in slots that the tenant holds. So no byte is known of a
+/// slot that was taken back, and a checker can forget the slot's bytes.
 pub fn left_in_held()
     ensures { LeftInHeld }
 {}
