@@ -75,7 +75,7 @@ changed_none key n change xs none = go (ltb (index key n xs) (length xs)) refl n
     go true lt is = absurd (cc)
     go false lt is = nowhere key n change xs (ltb-false _ _ lt)
 
--- a cache keeps its number if a call changes only its live objects when it succeeds, and changes nothing when it fails
+-- if a successful call changes only the live objects of a cache, and a failed call changes nothing, the cache keeps its number
 pub number_stays : {E : Type 0} (r : Result (Unit {0}) E) (change : List ℕ → List ℕ) (old new : KnownCache)
     → IfOk r (λ _. new ≡ record old { live = change old.live }) → OnErr r (new ≡ old) → new.number ≡ old.number
 number_stays (Ok u) change old new ok err = ap (λ (c : KnownCache). c.number) ok

@@ -77,7 +77,7 @@ match_found u (v ∷ vs) = go (v == u) refl (match_found u vs)
     go true e rest = (eqb-true v u e, refl)
     go false e rest = rest
 
--- two ways to compute whether the last object of a slab ends inside the slab have the same result
+-- two ways to test that a slab's last object ends inside the slab give the same result
 pub inside_slab : (origin count chunk size first order : ℕ)
     → nat_le (origin + ((count - 1) * chunk + size)) (FRAME_BYTES * first + FRAME_BYTES * 2 ^ order)
     ≡ nat_le (origin + (count - 1) * chunk + size) (FRAME_BYTES * (first + 2 ^ order))

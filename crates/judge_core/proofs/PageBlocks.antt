@@ -14,8 +14,8 @@ use Rattle.model_core.specs.Reach.{within_block}
 use Rattle.judge_core.specs.Inside.{ArePages}
 use Rattle.judge_core.proofs.RisingKeys.{any_kept, each_from, put_rises, put_behind}
 
--- Let a test pass only blocks that end after frame `begin` and begin before frame `end`. Then the test passes some page block
--- exactly if it passes one whose first frame is from `low` to `end - 1`. Here `low` is `begin` + 1 - 2 ^ `longest`.
+-- Let every block that passes a test have its last frame at or after `begin` and its first frame before `end`. Then some page
+-- block passes exactly if one whose first frame is from `low` to `end - 1` passes. Here `low` is `begin` + 1 - 2 ^ `longest`.
 pub near_part : (longest : ℕ) (pages : List Block) (begin end low : ℕ) → ArePages longest pages → low ≡ begin + 1 - 2 ^ longest → (test : Block → Bool)
     → ((b : Block) → test b ≡ true → (begin < b.first + 2 ^ b.order) × (b.first < end))
     → list_any test pages ≡ list_any test (filter (λ b. nat_le low b.first && nat_lt b.first end) pages)
@@ -52,7 +52,8 @@ pages_less longest test pages are = record {
   short = All-filter test (λ (x : Block). x.order ≤ longest) pages are.short;
 }
 
--- if block a has the frames from `begin` to `end - 1`, every block that overlaps a ends after `begin` and begins before `end`
+-- if block a has the frames from `begin` to `end - 1` and block b overlaps it, the last frame of b is at or after `begin`, and
+-- the first frame of b is before `end`
 pub overlap_near : (a b : Block) (begin end : ℕ) → begin ≡ a.first → end ≡ a.first + 2 ^ a.order → overlaps a b ≡ true
     → (begin < b.first + 2 ^ b.order) × (b.first < end)
 overlap_near a b begin end is_begin is_end e = let p = and_parts (ltb a.first (b.first + 2 ^ b.order)) (ltb b.first (a.first + 2 ^ a.order)) e in

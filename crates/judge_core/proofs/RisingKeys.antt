@@ -55,8 +55,8 @@ any_found test (x ∷ xs) = go (test x) (any_found test xs)
     go true rest = refl
     go false rest = rest
 
--- if every item that passes the test passes p, keeping only the items that pass p does not change whether some item passes the
--- test
+-- if every item that passes the test also passes p, keeping only the items that pass p does not change whether some item passes
+-- the test
 pub any_kept : {X : Type 0} (test p : X → Bool) (xs : List X) → Each (λ x. test x ≡ true → p x ≡ true) xs → list_any test xs ≡ list_any test (filter p xs)
 any_kept test p [] all = refl
 any_kept test p (x ∷ xs) (passes, all) = go (p x) (test x) refl passes (any_kept test p xs all)
@@ -104,8 +104,8 @@ module _ {X : Type 0} (key : X → ℕ) where
       go true e rest = ap (λ t. cond t (Some x) (find (is_from low) xs)) (lt-leb low (key x) (ltb-true _ _ e)) ∙ rest
       go false e rest = ap (λ t. cond t (Some x) (find (is_from low) xs)) (le-leb low (key x) (ltb-false _ _ e))
 
-  -- Let the test fail for each key below `low`. If it fails for an item whose key is at least `low`, let it fail for every item
-  -- whose key is not smaller. Then a search with the test finds the first item whose key is at least `low`, or nothing.
+  -- Let the test fail for each key below `low`. If it fails for an item whose key is at least `low`, let it also fail for every
+  -- item with the same or a larger key. Then a search with the test finds the first item whose key is at least `low`, or nothing.
   pub first_decides : (low : ℕ) (test there : X → Bool) (xs : List X) → IsNonDecreasingBy key xs → ((x : X) → key x < low → test x ≡ false)
       → ((x : X) → low ≤ key x → test x ≡ there x) → ((x y : X) → low ≤ key x → key x ≤ key y → there x ≡ false → there y ≡ false)
       → find test xs ≡ option_map_or (λ x. cond (there x) (Some x) None) (find (is_from low) xs) None

@@ -48,7 +48,8 @@ first_same k p q from below =
     let same : p / 4096 / 2 ^ k ≡ q / 4096 / 2 ^ k = omega (arith, up, down) in
     ap (λ (n : ℕ). n * 2 ^ k) same
 
--- place p is in the slab around `place`, from place `a` to `b` - 1, exactly if the slab around p has the same first frame
+-- Let the slab around `place` have the places from `a` to `b` - 1. Place p is one of them exactly if the slab around p has the
+-- same first frame.
 pub in_slab : (c : KnownCache) (place a b p : ℕ) → a ≡ 4096 * (slab_around c place).first → b ≡ 4096 * ((slab_around c place).first + 2 ^ c.order)
     → (nat_le a p && nat_lt p b) ≡ ((slab_around c p).first == (slab_around c place).first)
 in_slab c place a b p is_a is_b = elim (cases_lt p a) [

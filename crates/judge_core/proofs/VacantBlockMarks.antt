@@ -1,4 +1,5 @@
--- The marks of a slot's blocks: clear marks count the vacant blocks, and pairs of marks join into marks of the next order.
+-- The marks of a slot's blocks: the number of clear marks is the number of vacant blocks, and the marks of the two halves of a
+-- block give the mark of the block.
 use Rattle.std.proofs.Common.{◌≡◌, ℕ, zero, suc, ◌+◌, ◌-◌, ◌*◌, ◌^◌, ◌<◌, ◌≤◌, Bool, true, false, not, cond, List, [], ◌∷◌, length, get_or, take, inl, inr, refl, sym, ap, ◌∙◌, arith}
 use Rattle.std.specs.Prelude.{◌||◌, filter}
 use Rattle.std.specs.List.{list_any}

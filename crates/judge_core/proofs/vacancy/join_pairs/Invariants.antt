@@ -2,7 +2,7 @@ use Rattle.std.proofs.Common.{◌≡◌, ℕ, ◌+◌, ◌*◌, ◌<◌, ◌≤�
 use Rattle.std.specs.Prelude.{◌||◌}
 use Rattle.judge_core.proofs.vacancy.join_pairs.Given as goal
 
--- mark j before index i is set exactly if the old mark 2 * j or 2 * j + 1 was set; the marks from index i on are unchanged
+-- if j is below i, mark j is set exactly if the old mark 2 * j or 2 * j + 1 was set; the marks from index i on are unchanged
 abbrev pub invariant-loop-i : goal.invariant-loop-i
 invariant-loop-i l = record {
   long : length l.taken ≡ 256;
