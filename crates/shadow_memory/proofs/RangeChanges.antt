@@ -70,7 +70,7 @@ any_marked : (cell : Option Cell) → IsSummarizedBy any_summary cell
 any_marked None = tt
 any_marked (Some cell) = (tt, λ e. absurd (cc))
 
--- if `after` allows what was left at a place, the part's summary allows it too once it is set to `after`
+-- if `after` allows what was left at a place, so does the part's summary once it is set to `after`
 mark_set : (summaries : List Summary) (part : ℕ) (after : Summary) (cell : Option Cell) → IsSummarizedBy after cell → IsSummarizedBy (get_or (set summaries part after) part any_summary) cell
 mark_set summaries part after cell marked = elim (cases_lt part (length summaries)) [
   | inl lt ↦ subst (λ (m : Summary). IsSummarizedBy m cell) (sym (get_or-set_same summaries part after any_summary lt)) marked
@@ -78,8 +78,8 @@ mark_set summaries part after cell marked = elim (cases_lt part (length summarie
       (sym (ap (λ (ms : List Summary). get_or ms part any_summary) (set_past summaries part after ge) ∙ get_or_past summaries part any_summary ge)) (any_marked cell)
 ]
 
--- Let a step change places of only one part, and let `after` allow what is left in this part afterwards. If the part's summary is
--- set to `after`, each summary allows what was left in its part.
+-- Let each summary allow what was left in its part. Let a step change places of only one part, and let `after` allow what is left
+-- in this part after the step. Once this part's summary is set to `after`, each summary allows what is left in its part.
 pub marked_part : (step : CellStep) (first size part low high : ℕ) (summaries : List Summary) (summary after : Summary) (all : Bool) (old new : List KeptByte)
     → ((k : ℕ) → part * size ≤ k → k < part * size + size → k / size ≡ part)
     → ((k : ℕ) → k / size ≡ part → (part * size ≤ k) × (k < part * size + size))
@@ -171,7 +171,8 @@ module _ (holder : Holder) (begin first low high from to : ℕ) (bytes : List �
   put_before order = changed_left put_step first low from old
       (λ k over under. put_beside holder begin (first + k) bytes (cell_in old k) (inl (omega arith)))
 
-  -- if the step is made before index k, and the byte that is put at index k is then stored, the step is made up to index k
+  -- if the step is made at the indices below k, and the byte that is put at index k is then stored, the step is made up to
+  -- index k
   pub put_more : (k : ℕ) (new : List KeptByte) (kept : KeptByte) → low ≤ high → from ≤ k → k < to → k < length new
       → IsChanged put_step first low k old new
       → shown_kept kept ≡ Some (record { holder = holder; byte = get_or bytes (first + k - begin) 0; sure = true })

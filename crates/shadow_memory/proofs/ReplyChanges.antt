@@ -51,8 +51,8 @@ removed_part true test place x = refl
 removed_part false test place None = refl
 removed_part false test place (Some cell) = refl
 
--- Doubting within the places of a block doubts exactly the block's bytes whose holder passes the test. Forgetting within these
--- places forgets exactly these bytes.
+-- The step `doubted_of test`, limited to the places of a block, puts in doubt exactly the block's bytes whose holder passes the
+-- test. The step `removed_of test`, limited in the same way, forgets exactly these bytes.
 pub doubted_in : (b : Block) (begin end : ℕ) → begin ≡ 4096 * b.first → end ≡ 4096 * (b.first + 2 ^ b.order)
     → (test : Holder → Bool) (place : ℕ) (cells : Cells)
     → within begin end (doubted_of test) place (cells place) ≡ doubted (λ place holder. in_block place b && test holder) cells place
@@ -190,7 +190,7 @@ near_put reach more holder begin bytes from end grows before far place cell near
     go true false b le lt = near_more reach more place cell grows near
     go false a b le lt = near_more reach more place cell grows near
 
--- the holder cannot share a slab with the object of `size` bytes at `first` of this cache
+-- the holder cannot share a slab with the object of this cache that begins at `first` and has `size` bytes
 abbrev pub not_beside : ℕ → ℕ → ℕ → Holder → Bool
 not_beside number first size holder =
     not (is_object (λ n p. n == number && (p == first || (nat_le (first + size) p || nat_le (p + size) first))) holder)
@@ -229,8 +229,8 @@ is_beside first size p apart = elim (cases_lt p (first + size)) [
   ]
 ]
 
--- at a place of the slab outside the range from `low` to `high - 1`, a holder cannot share a slab with the object exactly if it
--- is not an object of the same cache
+-- a holder that left a byte in the slab, but outside the range from `low` to `high - 1`, cannot share a slab with the object
+-- exactly if it is not an object of the same cache
 far_beside : (reach : List ℕ) (number first size begin end low high place : ℕ) (h : Holder) → place < 2 ^ 32
     → low ≡ max begin (first - size) → high ≡ min end (min (first + size + slice_index reach number) (2 ^ 64 - 1)) → begin ≤ place → place < end
     → (leb low place && ltb place high) ≡ false → IsHolderNear reach place h → not_beside number first size h ≡ elsewhere number h
@@ -251,8 +251,8 @@ far_beside reach number first size begin end low high place (Holder.Object n p) 
     go true e = ap not (is_beside first size p (apart (eqb-true n number e)))
     go false e = refl
 
--- so once the slab's bytes of holders outside the object's cache are forgotten, only the places from `low` to `high - 1` can have
--- more bytes to forget
+-- so once the bytes in the slab that objects of the cache did not leave are forgotten, only the places from `low` to `high - 1`
+-- can have more bytes to forget
 narrowed : (reach : List ℕ) (number first size begin end low high place : ℕ) (x : Option Cell) → place < 2 ^ 32
     → low ≡ max begin (first - size) → high ≡ min end (min (first + size + slice_index reach number) (2 ^ 64 - 1)) → IsNear reach place x
     → within low high (removed_of (not_beside number first size)) place (within begin end (removed_of (elsewhere number)) place x)

@@ -13,7 +13,7 @@ shown_kept KeptByte.Fresh = None
 shown_kept (KeptByte.Page byte sure) = Some (record { holder = Holder.Page; byte = byte; sure = sure })
 shown_kept (KeptByte.Object cache byte sure first) = Some (record { holder = Holder.Object cache first; byte = byte; sure = sure })
 
--- the stored bytes, with `Fresh` added at the end until there is one for each of `places` places
+-- the stored bytes, with `Fresh` added at the end until the list has at least `places` elements
 abbrev pub padded : ℕ → List KeptByte → List KeptByte
 padded places kept = kept ++ replicate (places - length kept) KeptByte.Fresh
 

@@ -26,7 +26,7 @@ pub(crate) trait Change {
     fn adds(&self) -> bool
         ensures { result ≡ false → (place : ℕ) → step self.now place None ≡ None };
 
-    /// Returns true only if the change leaves every place with this summary unchanged.
+    /// Returns true only if the change has no effect at any place with this summary.
     fn leaves(&self, summary: Summary) -> bool
         ensures { result ≡ true → (place : ℕ) (cell : Option Cell) → IsSummarizedBy summary cell → step self.now place cell ≡ cell };
 

@@ -25,8 +25,8 @@ use std::marker::Model;
 pub struct ShadowMemory {
     order: u8,
     slots: Vec<SlotBytes>,
-    /// Indexed by cache number. Each byte that an object of the cache left lies fewer than this number of bytes after the
-    /// object's first byte.
+    /// The reach of each cache, indexed by cache number. The distance from an object's first byte to any byte that the object
+    /// left is less than the reach of its cache.
     reach: [u64; 256],
 }
 
@@ -77,7 +77,7 @@ impl ShadowMemory {
         Ok(())
     }
 
-    /// Removes the slot, if the tenant holds it, with what was left in it.
+    /// Removes the slot and what was left in it, if the tenant holds the slot.
     pub fn take_back(&mut self, slot: u32)
         ensures { Becomes self.old (filter (λ v. not (v == slot)) (left_slots self.old))
             (without (λ place holder. slot_of self.old.order place == slot)) self.new }
@@ -134,8 +134,8 @@ impl ShadowMemory {
         self.change(begin, end, &Doubt(IsObject { number, first }));
     }
 
-    /// Follows a take of the object at `first` of the cache with this number, which lies in `slab` and has `size` bytes. Forgets
-    /// the bytes that were left in the slab by holders that cannot share a slab with the object.
+    /// Follows a take from the cache with this number. The object that was taken begins at `first`, lies in `slab` and has `size`
+    /// bytes. Forgets the bytes that were left in the slab by holders that cannot share a slab with the object.
     pub fn take(&mut self, slab: &FrameBlock, number: u8, first: u32, size: u32)
         ensures { (c : KnownCache) → c.number ≡ number → c.size ≡ size → slab_around c first ≡ slab.now
             → Becomes self.old (left_slots self.old) (with_object first (Some c)) self.new }

@@ -10,7 +10,7 @@ use crate::kept::KeptByte;
 use crate::summary::{Summary, set_summary, summary_at};
 use model_core::limits::FRAME_BYTES;
 
-/// The number of places in a chunk, which is a part of a frame with its own summary.
+/// The number of places in a chunk. A frame consists of chunks, and each chunk has its own summary.
 pub(crate) const CHUNK: usize = 64;
 
 /// The number of places in a frame.
