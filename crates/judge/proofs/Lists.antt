@@ -36,8 +36,8 @@ same_share (Some i) (Some j) free split = go (i == j) refl
     go true e = ap (λ k. split == split_share free (Some k)) (sym (eqb-true i j e))
     go false e = refl
 
--- Let n be the number of the first i items that pass, and let `more` be 1 if item i passes and 0 if it fails. Then n + more of
--- the first i + 1 items pass.
+-- Let n of the first i items pass, and let `more` be 1 if item i passes and 0 if it fails. Then n + more of the first i + 1 items
+-- pass.
 pub one_more : (p : ℕ → Bool) (xs : List ℕ) (i n more : ℕ) (b : Bool) → i < length xs → n ≡ length (filter p (take i xs)) → b ≡ p (get_or xs i 0)
     → more ≡ from_bool b → n + more ≡ length (filter p (take (i + 1) xs))
 one_more p xs i n more b there is test bit =
@@ -48,7 +48,7 @@ one_more p xs i n more b there is test bit =
     number true = refl
     number false = refl
 
--- the number of the first i items that pass, plus 0 or 1, is at most i + 1
+-- if n of the first i items pass, n plus 0 or 1 is at most i + 1
 pub count_within : (p : ℕ → Bool) (xs : List ℕ) (i n more : ℕ) (b : Bool) → n ≡ length (filter p (take i xs)) → more ≡ from_bool b → n + more ≤ i + 1
 count_within p xs i n more b is bit =
     let both = length-filter_both p (λ x. not (p x)) (λ x. refl) (take i xs) in

@@ -126,7 +126,7 @@ pub(crate) fn set_owner(owners: &mut [Option<Owner>], superblock: u16, tenant: u
     }
 }
 
-/// Removes tenant `t` as the owner of the superblock under this slot.
+/// Removes the owner of each superblock that tenant `t` owns under this slot.
 pub(crate) fn give_up_slot(owners: &mut [Option<Owner>], t: u32, slot: u32)
     ensures { owners.new ≡ map (given_up (is_owner t slot)) owners.old }
 {

@@ -36,8 +36,7 @@ impl Tenant {
         }
     }
 
-    /// Judges and follows a requested report. Not inlined: a function that copies a report clears the memory for the copy on
-    /// entry.
+    /// Judges and follows a requested report. Not inlined, so that no caller clears memory for the copy of the report on entry.
     #[inline(never)]
     fn judge_report(&mut self, report: &Report) -> Verdict
         ensures { (t : ℕ) (w : Known)
