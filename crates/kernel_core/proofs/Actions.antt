@@ -55,7 +55,7 @@ pub record Has (k : KernelContent) (t : ℕ) (m : Machine) : Type 0 where
   pub shows : Shows k world
   pub machine : slice_get world.machines t ≡ Some m
 
--- `seen` is what the private machine m gives for `owns`, and kernel k' shows the machine afterwards
+-- `seen` is what the private machine m gives for `owns`. Kernel k' has order n and shows the machine that `owns` makes of m.
 pub record Follows (n t : ℕ) (owns : List Own) (m : Machine) (seen : List Sight) (k' : KernelContent) : Type 0 where
   pub sights : seen ≡ (own_seen cache_limit n owns m).sights
   pub order : k'.order ≡ n
@@ -78,7 +78,8 @@ run_follows k k' event reply t m had steps is =
       };
     })
 
--- For the private machine of the tenant that stores, a store is a `write`. For every other private machine, it is nothing.
+-- The list of x alone if `own` is true, and the empty list otherwise. A store is in the own list of the tenant that stores, and in
+-- no other tenant's own list.
 abbrev if_own : {A : Type 0} → Bool → A → List A
 if_own own x = if own then x ∷ [] else []
 

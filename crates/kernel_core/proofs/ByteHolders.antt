@@ -1,4 +1,4 @@
--- The live object or page block of the parts that a byte lies in is the one that the private machine has there.
+-- A byte lies in a live object or page block of the parts exactly if the private machine has the same object or block there.
 use Rattle.std.proofs.Common.{◌≡◌, inr, ℕ, ◌/◌, ◌^◌, ◌<◌, false, true, Option, Some, None, ok_or, IfOk, IfErr, refl, sym, ◌∙◌, ⊎_elim, subst, arith}
 use Rattle.std.specs.Prelude.{MatchOption}
 use Rattle.std.proofs.lemmas.Bool.{false≢true}

@@ -32,8 +32,8 @@ marks_kept old new owners marks m =
     ∙ sym (ap (λ os. mark_after (spaces.owner_at old.owners m) (spaces.owner_at os m) (spaces.mark_at old.marks m)) owners
     ∙ mark_kept (spaces.owner_at old.owners m) (spaces.mark_at old.marks m))
 
--- If `MarksFollow` holds, and superblock m then gets owner o, `MarksFollow` still holds if m also gets the mark that follows from
--- its owner before the call, owner o, and its mark before the call.
+-- `MarksFollow` stays true when superblock m gets owner o, if m also gets the mark that `mark_after` gives. The arguments of
+-- `mark_after` are the owner of m before the call, o, and the mark of m before the call.
 pub marks_replaced : (old now : spaces.Content) (m : ℕ) (o : Option Owner) (is : Bool) → MarksFollow old now → m < length now.owners → m < length now.marks
     → mark_after (spaces.owner_at old.owners m) o (spaces.mark_at old.marks m) ≡ is
     → MarksFollow old (record now { owners = slice_set now.owners m o; marks = slice_set now.marks m is })

@@ -90,8 +90,8 @@ pub record IsBooted (k : KernelContent) (superblocks tenants : ℕ) : Type 0 whe
   pub kernel : IsKernel k
   pub shows : Shows k (opening_world superblocks tenants)
 
--- From boot on, a tenant sees what its private machine gives for the tenant's own list. Afterwards the kernel shows, for the
--- tenant, the private machine after that list. The other tenants may do anything.
+-- From boot on, a tenant sees what its private machine gives for the tenant's own list. Afterwards the machine that the kernel
+-- shows for the tenant is the private machine as that list leaves it. The other tenants may do anything.
 abbrev pub OwnSights : Type 0
 OwnSights = (k k' : KernelContent) (superblocks tenants t : ℕ) (actions : List Action) →
     IsBooted k superblocks tenants → t < tenants → AllAct k actions k' →

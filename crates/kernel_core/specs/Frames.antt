@@ -5,7 +5,7 @@ use Rattle.model_core.specs.Machine.{Slab, Cache, Machine, holds, order_in, take
 use Rattle.model_core.specs.Slabs.{cache_of, slab_of, is_full, is_partial, is_empty}
 use Rattle.kernel_core.specs.declared.frames.FrameKind.{FrameKind}
 
--- frame f lies in a slab of machine m that passes the test
+-- frame f of machine m lies in a slab that passes the test
 pub record IsInSlab (m : Machine) (f : ℕ) (test : Slab → Bool) : Type 0 where
   pub number : ℕ
   pub cache : Cache

@@ -8,7 +8,7 @@ use Rattle.machine_changes.specs.Records.{is_set}
 use Rattle.kernel_core.specs.Content.{KernelContent, superblock_at, superblock_bytes}
 use Rattle.kernel_core.specs.Shows.{ShowsMachine}
 
--- The last 32 bytes of frame f of tenant t are the flags of the live objects of slab y: flag 8i + j is bit j of byte i. All bits
+-- The last 32 bytes of frame f of tenant t are the live flags of the objects of slab y: flag 8i + j is bit j of byte i. All bits
 -- past the flags are 0. The bytes are in the superblock of the frame's slot.
 pub record HasRecord (k : KernelContent) (t f : ℕ) (y : Slab) : Type 0 where
   pub superblock : ℕ

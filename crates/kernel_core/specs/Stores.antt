@@ -13,7 +13,7 @@ use Rattle.kernel_core.specs.Content.{KernelContent, PartsAgree}
 use Rattle.kernel_core.specs.Shows.{Shows}
 use Rattle.kernel_core.specs.Steps.{Steps}
 
--- the invariants of every kernel
+-- the parts of k agree, and the invariants of each part hold; both are true of every kernel
 pub record IsKernel (k : KernelContent) : Type 0 where
   pub agree : PartsAgree k
   pub together : HoldTogether k.space k.buddy k.slabs
@@ -30,7 +30,7 @@ pub record Loads (k : KernelContent) (t place byte : ℕ) : Type 0 where
   pub reach : IsInReach k.space k.buddy k.slabs t place 1
   pub is : byte_at k.space t place ≡ Some byte
 
--- a store of any number of bytes is the step of a `write` of these bytes, and the kernel after the store has its invariants
+-- a store of any number of bytes is the step of a `write` of these bytes, and `IsKernel` is true of the kernel after the store
 abbrev pub StoresAreWrites : Type 0
 StoresAreWrites = (k k' : KernelContent) (t place : ℕ) (bytes : List ℕ) → IsKernel k → Stores k t place bytes k' →
     IsKernel k'

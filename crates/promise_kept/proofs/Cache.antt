@@ -46,8 +46,7 @@ few_below : (n limit : ℕ) (xs : List ℕ) → n ≤ limit → RisesFrom n xs �
 few_below n limit [] le r each = omega arith
 few_below n limit (x ∷ xs) le (l, r) (b, each) = let rest = few_below (x + 1) limit xs (omega arith) r each in omega (arith, rest, l)
 
--- After cache c is put among the caches by its number, the known caches are the old known caches with c, as it is known, put
--- among them by its number.
+-- if cache c is put among the caches by its number, `cache_as_known c` is put among the known caches by its number
 new_told : (c : Cache) (cs : List Cache) → map cache_as_known (put_rising (λ x. x.number) c cs) ≡ put_rising (λ (x : KnownCache). x.number) (cache_as_known c) (map cache_as_known cs)
 new_told c [] = refl
 new_told c (d ∷ cs) = go (ltb c.number d.number) (new_told c cs)

@@ -74,7 +74,7 @@ module _ {limit : ℕ} (order first : ℕ) (c : Cache) (m : Machine) (st : State
   grown_seen = ap (λ cs. record { slots = m.slots; pages = m.blocks; caches = cs })
       (told_replaced (grown_cache first c) m.caches (λ x i same. told_grown first c ∙ ap cache_as_known (one_key (λ y. y.number) 0 m.caches c x w.caches_rise in_c i (sym same))))
 
-  -- a place in a slab of the machine is not in the new slab
+  -- a place in a slab that the machine had before the growth is not in the new slab
   off_new : (l : Laid) → IsIn l (all_laid m.caches) → (p : ℕ) → in_laid p l ≡ true → in_block p (slab_block c new) ≡ false
   off_new l i p here = apart_place p (laid_block l) (slab_block c new) (apart_turned (slab_block c new) (laid_block l)
       (each_in (λ k. IsApart (slab_block c new) (laid_block k)) l (all_laid m.caches) (each_unmap (IsApart (slab_block c new)) laid_block (all_laid m.caches)

@@ -18,7 +18,7 @@ use Rattle.promise_core.specs.State.{State, Known, state_after}
 use Rattle.promise_core.specs.Promises.{form, refusals, room, busy, blocks, objects, new_layout, gives, owners, bytes, report, still, kept}
 use Rattle.promise_kept.specs.Meets.{is_object_live, Meets, IsKeptBy}
 
--- if a reply keeps each promise, it keeps all promises of the list `kept`
+-- if each of the twelve tests is true, the reply keeps all promises of the list `kept`
 pub all_kept : (event : Event) (reply : Reply) (w : Known) (s : State) → form event reply w s ≡ true → refusals event reply.body w s ≡ true → room event reply.body w s ≡ true
     → busy event reply.body w s ≡ true → blocks event reply.body w s ≡ true → objects event reply.body w s ≡ true → new_layout event reply.body w s ≡ true
     → gives event reply.body w s ≡ true → owners event reply.body w s ≡ true → bytes event reply.body w s ≡ true → report event reply.body w s ≡ true
@@ -64,7 +64,7 @@ is_same_refl (Holder.Object n p) = and_from (eqb n n) (eqb p p) (eq-eqb n n refl
 abbrev pub IsLiving : Holdings → Cells → Type 0
 IsLiving h cells = (place : ℕ) (cell : Cell) → cells place ≡ Some cell → cell.sure ≡ true → is_object_live h cell.holder place ≡ true
 
--- if the holder of every sure cell is live, a holder that is not live may have the fresh byte
+-- if the holder of every sure cell is live, a holder that is not live at a place may have the fresh byte there
 pub fresh_may : (h : Holdings) (cells : Cells) → IsLiving h cells → (holder : Holder) (place fresh : ℕ) → is_object_live h holder place ≡ false
     → may_be holder fresh (cells place) fresh ≡ true
 fresh_may h cells lives holder place fresh dead = go (cells place) refl

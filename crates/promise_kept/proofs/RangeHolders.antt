@@ -71,7 +71,7 @@ holder_lives m place len holder (page is b i e) p low high =
 holder_lives m place len holder (object o i is e l) p low high =
     ap (λ x. is_object_live (holdings_of m) x p) is ∙ (ap (λ x. is_object_live (holdings_of m) x place) (sym is) ∙ l)
 
--- the rows of a report's orders do not depend on the bytes
+-- the rows that a report has for the orders do not depend on the machine's bytes
 order_rows_same : (order n : ℕ) (m : Machine) (bytes : ℕ → Option ℕ) → order_rows order (record m { bytes = bytes }) n ≡ order_rows order m n
 unfolding model.taken_blocks
 order_rows_same order zero m bytes = refl
@@ -96,7 +96,7 @@ module _ {limit : ℕ} (order : ℕ) (s : State) (m : Machine) (w : IsWellFormed
   byte_is : (p byte : ℕ) → in_range p ≡ true → bytes p ≡ Some byte → slice_index new (p - place) ≡ byte
   byte_is p byte e there = let r = bounds p e in let both : Some (slice_index new (p - place)) ≡ Some byte = sym (inside p r.0 r.1) ∙ there in cc
 
-  -- after the range is read or written, its holder may have the byte that was read or written at each place of the range
+  -- after the range is read or written, its holder may have, at each place of the range, the byte that was read or written there
   own : (p fresh byte : ℕ) (other : Holder) → holder ≡ other → slice_index new (p - place) ≡ byte → may_be other fresh (Some (told_cell p)) byte ≡ true
   own p fresh byte other same is = ap (λ b. if b then (eqb byte (slice_index new (p - place)) || (not true && eqb byte fresh)) else eqb byte fresh)
       (ap (λ x. is_same x other) same ∙ is_same_refl other) ∙ or_left (eqb byte (slice_index new (p - place))) _ (eq-eqb byte (slice_index new (p - place)) (sym is))

@@ -28,8 +28,8 @@ use Rattle.promise_kept.proofs.EmptySlabsUnseen.{none_live}
 
 -- Lists
 
--- Only the first element of an ascending list can pass p, and it passes exactly if b is true. Then 1 element passes if b is true,
--- and 0 elements pass otherwise.
+-- Suppose that only the first element of a nonempty ascending list can pass p, and that it passes exactly if b is true. Then 1
+-- element passes if b is true, and 0 elements pass otherwise.
 one_first : (n : ℕ) (xs : List ℕ) (b : Bool) (p : ℕ → Bool) → RisesFrom n xs → ((x : ℕ) → IsIn x xs → p x ≡ (eqb (slice_index xs 0) x && b)) → 0 < length xs → length (filter p xs) ≡ bit b
 one_first n [] b p r all some = absurd (omega (arith, some))
 one_first n (x ∷ xs) b p (l, r) all some =
@@ -79,7 +79,7 @@ module _ {limit : ℕ} (order : ℕ) (c : Cache) (m : Machine) (w : IsWellFormed
   beside_there s p i j = let b : IsBeside c s p = beside_at c s p j in
       ap (λ x. live_beside (cache_as_known c) x) b.at ∙ beside_is order c m w in_c s b.index i (subst (λ n. b.index < n) (is_slab order c m w in_c s i).count b.index_in)
 
-  -- a slab is full exactly if it is seen as full at the first place p of one of its live objects
+  -- if a live object of a slab begins at place p, the slab is full exactly if it is seen as full at p
   full_told : (s : Slab) (p : ℕ) → IsIn s c.slabs → IsIn p (places_in c s) → holdings.is_slab_full (cache_as_known c) p ≡ is_full s
   full_told s p i j = ap (λ ps. eqb (length ps) (layout c).count) (beside_there s p i j) ∙ go (is_full s) refl (is_slab order c m w in_c s i).count
     where

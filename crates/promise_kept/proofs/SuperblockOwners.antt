@@ -34,7 +34,7 @@ one_free i j [] e = absurd (cc)
 one_free i j (None ∷ xs) e = let same : i ≡ j = cc in (0, omega (arith, same), refl)
 one_free i j (Some x ∷ xs) e = let r : (n : ℕ) × (j ≡ i + 1 + n) × (slice_get xs n ≡ Some None) = one_free (i + 1) j xs e in (suc r.0, omega (arith, r.1), r.2)
 
--- if `position` returns index j as that of a superblock without an owner, superblock j has no owner
+-- if `position` returns j when it searches for a superblock without an owner, superblock j has no owner
 pub pool_first : (xs : Owners) (j : ℕ) → position is_none xs ≡ Some j → slice_get xs j ≡ Some None
 pool_first xs j e = let r : (n : ℕ) × (j ≡ 0 + n) × (slice_get xs n ≡ Some None) = one_free 0 j xs (sym (position_from-zero is_none xs) ∙ e) in
     let same : r.0 ≡ j = omega (arith, r.1) in subst (λ n. slice_get xs n ≡ Some None) same r.2
@@ -49,7 +49,7 @@ not_all_owned (Some x ∷ xs) (suc j) e = not_all_owned xs j e
 -- Giving up and granting superblocks
 
 -- The superblocks whose owners pass `test` are given up. If no owner passes both `test` and `mine`, this does not change whether
--- some superblock passes `mine`.
+-- the owner of some superblock passes `mine`.
 pub given_others : (test mine : Option Owner → Bool) (xs : Owners) → ((o : Option Owner) → mine o ≡ true → test o ≡ false) → mine None ≡ false
     → list_any mine (map (given_up test) xs) ≡ list_any mine xs
 given_others test mine [] apart none = refl
@@ -60,8 +60,8 @@ given_others test mine (x ∷ xs) apart none = ap (λ b. b || list_any mine (map
     go true true is own = absurd (false≢true (sym (apart x own) ∙ is))
     go true false is own = none ∙ sym own
 
--- The superblocks whose owners pass `test` are given up. If every owner that passes `mine` passes `test`, no superblock passes
--- `mine` afterwards.
+-- The superblocks whose owners pass `test` are given up. If every owner that passes `mine` passes `test`, no superblock's owner
+-- passes `mine` afterwards.
 pub given_own : (test mine : Option Owner → Bool) (xs : Owners) → ((o : Option Owner) → mine o ≡ true → test o ≡ true) → mine None ≡ false
     → list_any mine (map (given_up test) xs) ≡ false
 given_own test mine [] all none = refl

@@ -107,8 +107,8 @@ module _ (limit order : ℕ) (w : World) (states : List State) where
     pub state_of : (t : ℕ) (m : Machine) → slice_get w.machines t ≡ Some m → (s : State) × (slice_get states t ≡ Some s)
     state_of t m is = beside states w.machines t m h.tenants is
 
-    -- Only the machine of tenant t and the owners of its slots change, and state `next` is true of the new machine. Then what is
-    -- known, with `next` as the state of tenant t, is true of the new world.
+    -- Suppose that only the machine of tenant t and the superblocks that tenant t owns change, and that state `next` is true of
+    -- the new machine. Then what is known, with `next` as the state of tenant t, is true of the new world.
     step_meets : (t : ℕ) (next : State) (m after : Machine) (owners : List (Option Owner)) → slice_get w.machines t ≡ Some m → Meets order next after
         → IsWellFormed limit order after → length owners ≡ length w.owners → ((u : ℕ) → holds after u ≡ list_any (is_owner t u) owners)
         → ((v u : ℕ) → v ≢ t → list_any (is_owner v u) owners ≡ list_any (is_owner v u) w.owners)
@@ -145,7 +145,7 @@ module _ (limit order : ℕ) (w : World) (states : List State) where
     others_stay : (event : Event) (t : ℕ) (next : State) → named event ≡ Some t → (v : ℕ) → named event ≢ Some v → slice_get (slice_set states t next) v ≡ slice_get states v
     others_stay event t next name v other = slice_get-set_other states t v next (λ same. other (name ∙ ap (λ n. Some n) same))
 
-    -- a step that changes neither the world nor what is known is kept if its reply keeps each promise
+    -- if a step changes neither the world nor what is known, and its reply keeps each promise, `IsKeptIn` is true of the step
     pub unchanged : (event : Event) (reply : Reply) (t : ℕ) (m : Machine) (s : State) → named event ≡ Some t → slice_get w.machines t ≡ Some m → slice_get states t ≡ Some s
         → list_all (λ p. p.1) (kept event reply now s) ≡ true → state_after order event reply.body s ≡ Some s → owners_after event reply.body w.owners ≡ w.owners
         → IsKeptIn limit order event now (record { reply = reply; world = w })
@@ -158,7 +158,7 @@ module _ (limit order : ℕ) (w : World) (states : List State) where
       others = λ v other. refl;
     }
 
-    -- if the event names a tenant that does not exist, a step that replies `NoTenant` and changes nothing is kept
+    -- if an event names a tenant that does not exist, `IsKeptIn` is true of a step that replies `NoTenant` and changes nothing
     pub stranger : (event : Event) (reply : Reply) (t : ℕ) → named event ≡ Some t → slice_get w.machines t ≡ None
         → is_for event false reply.addressee ≡ true → is_no_tenant reply.body ≡ true → IsKeptIn limit order event now (record { reply = reply; world = w })
     stranger event reply t name is for says = record {
