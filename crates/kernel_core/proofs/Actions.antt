@@ -78,8 +78,8 @@ run_follows k k' event reply t m had steps is =
       };
     })
 
--- The list of x alone if `own` is true, and the empty list otherwise. A store is in the own list of the tenant that stores, and in
--- no other tenant's own list.
+-- The list of x alone if `own` is true, and the empty list otherwise. A store is in the own list of the tenant that stores, and
+-- in no other tenant's own list.
 abbrev if_own : {A : Type 0} → Bool → A → List A
 if_own own x = if own then x ∷ [] else []
 

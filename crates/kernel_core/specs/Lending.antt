@@ -49,7 +49,8 @@ pub record HasBytes (m : Machine) (place : ℕ) (bytes : List ℕ) : Type 0 wher
   pub each : (i : ℕ) → i < length bytes → m.bytes (place + i) ≡ Some (slice_index bytes i)
 
 -- These are the `len` bytes of tenant t from the place on, and the tenant's private machine has the same bytes there. If a
--- borrower leaves new bytes there, `len` in number, they are stored. If a borrower leaves the bytes as they were, nothing changes.
+-- borrower leaves new bytes there, `len` in number, they are stored. If a borrower leaves the bytes as they were, nothing
+-- changes.
 pub record IsLent (k : KernelContent) (t place len : ℕ) (bytes : List ℕ) : Type 0 where
   pub count : length bytes ≡ len
   pub reach : IsInReach k.space k.buddy k.slabs t place len

@@ -1,8 +1,8 @@
 //! The kernel of a machine whose memory is shared by tenants.
 //!
 //! [`Kernel::step`] runs one event. It is proved to be a step of the world (`specs/`), which has the owner of each superblock and
-//! a private machine for each tenant. The laws of whole runs, and of traces and replies as bytes, are in [`laws`]. They say that a
-//! tenant gets the replies of its private machine, whatever the other tenants do.
+//! a private machine for each tenant. The laws of whole runs, and of traces and replies as bytes, are in [`laws`]. They say that
+//! a tenant gets the replies of its private machine, whatever the other tenants do.
 //!
 //! # Example
 //!

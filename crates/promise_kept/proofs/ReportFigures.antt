@@ -54,8 +54,8 @@ module _ (top : ℕ) (held : ℕ → Bool) (taken : Taken) (slots : ℕ) where
       ap (count_below (free_at k)) all ∙ strided (free_at k) (2 ^ k) (slots * 2 ^ d) (pow_pos k)
       (λ f on. eqb-true (f % 2 ^ k) 0 (and_parts (leb k top) (eqb (f % 2 ^ k) 0) (and_parts (leb k top && eqb (f % 2 ^ k) 0) _ on).0).1)
 
-  -- block q of order k is free exactly if it is clear and either k is the order of a slot or the block of order k + 1 around it is
-  -- not clear
+  -- block q of order k is free exactly if it is clear and either k is the order of a slot or the block of order k + 1 around it
+  -- is not clear
   free_is : (k q : ℕ) → k ≤ top → free_at k (q * 2 ^ k) ≡ (is_clear ok k q && (eqb k top || not (is_clear ok (suc k) (q / 2))))
   free_is k q le =
       let double : 2 ^ suc k ≡ 2 ^ k * 2 = omega arith in

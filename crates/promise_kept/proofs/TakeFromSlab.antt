@@ -69,8 +69,8 @@ module _ {limit : ℕ} (order : ℕ) (c : Cache) (s : Slab) (i : ℕ) (m : Machi
   still_live p (Holder.Object number first) e = told_live n number first p (live_replaced c d m w.caches_rise in_c refl number first (live_told m number first p e)
       (λ _ was. live_other limit order c s i true m w in_c in_s lt first was (λ f. not_live (subst (IsLivePlace c) f was))))
 
-  -- Cells of page blocks outside slabs do not pass `left_beside`, and cells of the machine's objects do not pass it. So none of
-  -- these cells is dropped.
+  -- Neither a cell of a page block at a place outside slabs nor a cell of one of the machine's objects passes `left_beside`. So
+  -- none of these cells is dropped.
   page_left : (p : ℕ) → in_slab m p ≡ false → left_beside (cache_as_known c) place p Holder.Page ≡ false
   page_left p out = ap (λ b. b && true) (ap (in_block p) (slab_here order c m w in_c s i in_s lt)
       ∙ each_in (λ k. in_laid p k ≡ false) (laid c s) (all_laid m.caches) (none_of (in_laid p) (all_laid m.caches) (sym (in_slab_laid m p) ∙ out)) (in_all_laid c s m.caches in_c in_s))
