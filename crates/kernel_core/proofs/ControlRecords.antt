@@ -12,8 +12,8 @@ use Rattle.kernel_core.specs.Records.{RecordsStand}
 same_order : (k : KernelContent) → PartsAgree k → k.slabs.top ≡ k.order
 same_order k agree = sym agree.agree.order ∙ agree.top
 
--- if the tenant's frame f is machine frame n in superblock m, byte i of its record is byte 4064 + i of the frame in this
--- superblock
+-- if the tenant's frame f is machine frame n, which lies in superblock m, byte i of the frame's control record is byte
+-- 4064 + i of this frame in the superblock
 place_is : (k : KernelContent) (f m n i : ℕ) → n ≡ m * 2 ^ k.slabs.top + f % 2 ^ k.slabs.top
     → record_at k.space k.slabs n i ≡ slice_index (superblock_bytes k m) (4096 * (f % 2 ^ k.slabs.top) + 4064 + i)
 place_is k f m n i is =

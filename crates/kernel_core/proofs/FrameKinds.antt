@@ -37,8 +37,8 @@ free_here taken x ended none (f, k, is, here) = go (cases_order f x)
     go (inr (inl below)) = absurd (omega (arith, ended f k is below, here.1))
     go (inr (inr above)) = absurd (omega (arith, here.0))
 
--- Let all taken blocks that begin before frame x end at or before x. If a taken block begins at x, then all taken blocks that
--- begin before its end also end at or before its end.
+-- Let all taken blocks that begin before frame x end at or before x. If a taken block begins at x, and frame e is the first one
+-- after this block, then all taken blocks that begin before e end at or before e.
 pub block_next : (top : ℕ) (held : ℕ → Bool) (taken : Taken) → IsSound top held taken → (x j : ℕ) → AreEndedBefore taken x → taken x ≡ Some j
     → AreEndedBefore taken (x + 2 ^ j)
 block_next top held taken sound x j ended here f k is less = go (cases_order f x)
@@ -81,8 +81,8 @@ pub frame_of_slot : (slot order at : ℕ) → at < 2 ^ order → ((slot * 2 ^ or
 frame_of_slot slot order at less = (div-mul-add slot (2 ^ order) at less, mod-mul-add slot (2 ^ order) at less)
 
 -- Let P hold for the first `at` cells of `old`, and for `kind` at the next `frames` indices. Let `new` keep the first `at` cells,
--- and have `kind` in the next `frames` cells that are below `most`. Then P holds for all cells of `new` below `at + frames` and
--- `most`.
+-- and have `kind` in each of the next `frames` cells whose index is below `most`. Then P holds for all cells of `new` whose index
+-- is below both `at + frames` and `most`.
 pub runs_more : (P : ℕ → FrameKind → Type 0) (old new : List FrameKind) (at frames most : ℕ) (kind : FrameKind)
     → ((k : ℕ) (cell : FrameKind) → k < at → slice_get old k ≡ Some cell → P k cell)
     → ((k : ℕ) → k < at → slice_get new k ≡ slice_get old k)

@@ -33,7 +33,8 @@ use Rattle.machine_changes.proofs.OneMachineShown.{one_machine}
 pub keeps_shows : (k k' : KernelContent) (t : ℕ) (m : Machine) → Keeps k k' t → ShowsMachine k t m → ShowsMachine k' t m
 keeps_shows k k' t m keeps shown = kept_shows_same k.space k'.space k.buddy k'.buddy k.slabs k'.slabs t keeps m shown
 
--- if nothing changes except the owners and the machine of tenant t, the kernel shows the world with the new owners and machine
+-- if nothing changes except the table of owners and tenant t's machine, the kernel shows the world with the new owners and
+-- the new machine
 pub shows_changed : (k k' : KernelContent) (w : World) (t : ℕ) (m m' : Machine) (owners : List (Option Owner)) → Shows k w → PartsAgree k' → k'.tenants ≡ k.tenants → owners ≡ k'.space.owners
     → slice_get w.machines t ≡ Some m → ShowsMachine k' t m' → ((u : ℕ) → u ≢ t → Keeps k k' u) → Shows k' (record { owners = owners; machines = slice_set w.machines t m' })
 shows_changed k k' w t m m' owners shown agree same_tenants same_owners here shown' keeps = record {
@@ -66,7 +67,7 @@ steps_answered k event to body same = record {
   spare = λ _ _. refl;
 }
 
--- Let an event name tenant t, and change only the owners and the machine of t in the world. If a call does this step in the
+-- Let an event name tenant t, and change only the table of owners and t's machine in the world. If a call does this step in the
 -- kernel and its reply is not a refusal, the call is a step of the event.
 pub steps_done : {A : Type 0} (k k' : KernelContent) (event : Event) (reply : Reply) (t : ℕ) (step : Machine → Step A) (owned : List (Option Owner)) (told : A)
     → t < k.tenants → PartsAgree k' → Does k t step owned k' told

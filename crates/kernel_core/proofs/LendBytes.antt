@@ -1,4 +1,5 @@
--- Bytes lent in place: the private machine has the same bytes, and the parts still agree after any bytes are left there.
+-- The bytes that are lent in place are the bytes of the private machine. After the borrower has overwritten them, the parts
+-- still agree.
 use Rattle.std.proofs.Common.{◌≡◌, false, ℕ, ◌+◌, ◌%◌, ◌++◌, take, drop, slice_range, Option, Some, None, List, [], length, unwrap_or, refl, sym, ap, ◌∙◌, subst, arith}
 use Rattle.std.proofs.Math.ListN.{set}
 use Rattle.std.proofs.Math.Seq.{take-length}
@@ -41,7 +42,8 @@ pub length-fit : (xs ws : List ℕ) → length (fit xs ws) ≡ length xs
 length-fit xs ws =
     length-take (length xs) (ws ++ drop (length ws) xs) ∙ omega (arith, length-append ws (drop (length ws) xs), length-drop (length ws) xs)
 
--- if xs has the window's length, writing `fit xs ws` to the window equals storing these bytes from the place on
+-- if xs has the window's length, writing `fit xs ws` to the window gives the same memory as storing these bytes from the
+-- place on
 pub window_fitted : (r : spaces.Content) (t place len : ℕ) (xs ws : List ℕ) → length xs ≡ len → with_window r t place len (fit xs ws) ≡ stored t place (fit xs ws) r
 window_fitted r t place len xs ws long = ap (λ n. with_window r t place n (fit xs ws)) (sym (length-fit xs ws ∙ long))
 

@@ -40,7 +40,7 @@ page_from : (v : Bool) (o : Option ℕ) (k : ℕ) → (if v then None else o) �
 page_from true o k is = absurd (some_none (sym is))
 page_from false o k is = record { page = refl; taken = is }
 
--- if an order is at most 8, the size of its page block in bytes fits in 32 bits
+-- if an order is at most 8, the size in bytes of a page block of this order fits in 32 bits
 size_is : (order : ℕ) → order ≤ 8 → 4096 * 2 ^ order % 4294967296 ≡ 4096 * 2 ^ order
 size_is order few =
     let two : 0 < 2 = omega arith in

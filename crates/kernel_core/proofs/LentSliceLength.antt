@@ -47,7 +47,7 @@ module _ {M : Type 1} {𝓤 : Ura M} (𝓛 : Logic 𝓤) (ℓ : Lifetime) (κ : 
       rewrite ! 0 (λ (l : List ℕ). ‵ (cells (mem u8) l b o)) (sym (fit-same xs ws e)) refl $
       feq_i ! ℕ (length (fit xs ws)) (length xs) (ap length (fit-same xs ws e) ∙ e) $ fjoin ! $ keep ! (0 ∷ []) $ done !)
 
-  -- The slice with the length of xs, under a new ghost name δ. The old name γ follows δ: its value will be `fit xs` of δ's last
+  -- The slice with the length of xs, under a new ghost name δ. The old name γ follows δ: γ's value will be `fit xs` of δ's last
   -- value.
   abbrev pub fitted_lent : List Val → GName → Item 𝓤
   fitted_lent vs δ = given (vs ≡ slice_val (b, o) (length xs) ∷ []) (given (Room u8 (length xs))

@@ -150,7 +150,7 @@ holder_slot a x zero m is = (refl, is)
 holder_slot a x (suc zero) m is = absurd (cc)
 holder_slot a x (suc (suc u)) m is = absurd (cc)
 
--- if a block is taken at frame 0, its order is 0 and the slot is held
+-- if a block is taken at frame 0, its order is 0 and slot 0 is held
 abbrev IsPlaced : Option ℕ → Option ℕ → Type 0
 IsPlaced a x = (k : ℕ) → x ≡ Some k → (k ≡ 0) × (is_some a ≡ true)
 

@@ -40,14 +40,15 @@ is_under s t u m space here = record {
       other (some_same (sym ((space.agree t u n).1 (owner_is t u (spaces.owner_at s.owners n) owns)) ∙ here)));
 }
 
--- a search for the superblock whose owner is slot u of tenant t finds m
+-- if superblock m is the only one that slot u of tenant t owns, a search for the first superblock with this owner finds m
 pub found_under : (s : spaces.Content) (t u m : ℕ) → IsUnder s t u m → position_or_len (is_owner t u) s.owners ≡ m
 found_under s t u m under =
     position_or_len_is (is_owner t u) s.owners m None (omega (arith, under.within))
     (λ n below. under.only n (λ same. absurd (omega arith)))
     (λ _. ap (is_owner t u) under.owner ∙ owner_self t u)
 
--- removing the owner of superblock m gives the same owners as removing slot u of tenant t wherever it is the owner
+-- if superblock m is the only one that slot u of tenant t owns, removing the owner of m gives the same table as removing this
+-- owner from every superblock
 pub given_up_one : (s : spaces.Content) (t u m : ℕ) → IsUnder s t u m → slice_set s.owners m None ≡ map (given_up (is_owner t u)) s.owners
 given_up_one s t u m under =
     same_lists (slice_set s.owners m None) (map (given_up (is_owner t u)) s.owners)

@@ -135,7 +135,8 @@ giving_ends old now t told space g = record {
         absurd (never_own t slot (owner_at old.owners n)
         (sym (past_all old now t (length old.owners) told g (omega arith) n (owned_below n (owned_by t slot) own)) ∙ own))
 
--- All superblocks of tenant t are taken back, and the tenant has no cache. The number of superblocks taken back is `told`.
+-- All superblocks of tenant t are taken back, and afterwards the tenant has no cache. `told` is the number of superblocks taken
+-- back.
 pub record IsEmptying (r r' : spaces.Content) (b : buddies.Content) (s s' : tables.Content) (t told : ℕ) : Type 0 where
   pub together : HoldTogether r b s
   pub tenant : t < length b.tenants

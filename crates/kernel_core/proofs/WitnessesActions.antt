@@ -210,7 +210,7 @@ beside_acts = (
 
 -- The laws
 
--- before and after the first grant, the kernel shows only the world that is given here
+-- before the first grant, the kernel shows only the opening world; after it, the kernel shows only the world after this grant
 OneWorld-met : OneWorld → ((w : World) → Shows opened w → w ≡ opening_world 2 2)
     × ((w : World) → Shows alone_1 w → w ≡ (world_step cache_limit 3 (On.Admin (Do.Grant 0)) (opening_world 2 2)).world)
 OneWorld-met law = (

@@ -19,7 +19,8 @@ returns-in-Err-BadAlign-clause-steps c =
     cache_refused c.args.self.now c.args.t c.args.size c.args.align c.args.pattern.now _ CacheRefusal.BadAlign
     (sym (ap (λ x. Err x) c.in-Err-BadAlign.field-0-is) ∙ c.in-Err-BadAlign.ensures) (λ m. refl)
 
--- After `create`, the command `cache` was run: the cache was made, or it was refused because all numbers of caches are used.
+-- After `create`, the command `cache` was run: the cache was made, or the command was refused because all cache numbers are
+-- in use.
 tried : (c : After-create) → StepsMachine (content_of c.self.inside.space c.self.inside.buddy c.self.inside.slabs) c.args.t
     (Command.Cache c.args.size c.args.align (record { items = c.args.pattern.now })) (content_of c.self.inside.space c.self.inside.buddy c.create.new.self)
     (cache_body c.args.size c.args.align (ok_or c.create.result CacheRefusal.NoCacheSlot))
