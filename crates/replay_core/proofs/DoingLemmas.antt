@@ -21,7 +21,8 @@ lines_both : (xs ys : List (List ℕ)) → AreLines xs → AreLines ys → AreLi
 lines_both [] ys h k = k
 lines_both (x ∷ xs) ys h k = (h.0, lines_both xs ys h.1 k)
 
--- if the bytes are the lines `xs` and `rest`, and `rest` is the lines `ys` and `left`, the bytes are all these lines and `left`
+-- if the bytes are the lines `xs` followed by `rest`, and `rest` is the lines `ys` followed by `left`, the bytes are the lines
+-- `xs ++ ys` followed by `left`
 cut_twice : (bytes rest left : List ℕ) (xs ys : List (List ℕ)) → bytes ≡ with_line_feeds xs ++ rest → rest ≡ with_line_feeds ys ++ left
     → bytes ≡ with_line_feeds (xs ++ ys) ++ left
 cut_twice bytes rest left xs ys cut more =
@@ -59,7 +60,7 @@ module _ {S : Type 0} (does : S → List ℕ → List ℕ → List ℕ → S →
       (subst (λ (ts : List ℕ). P ((xs ++ line ∷ []) ++ lines) ts s') (append_assoc taken h.1 h.2 ∙ ap (λ ts. taken ++ ts) (sym h.3))
       (run_keeps P step (xs ++ line ∷ []) lines (taken ++ h.1) h.2 h.0 s' (step xs line taken h.1 s h.0 here h.4) h.5))
 
-  -- without any line, all bytes are left, and the state and the drain's contents stay the same
+  -- if no line was processed, all bytes are left, and the state and the drain's contents stay the same
   pub gone_nothing : (s : S) (bytes : List ℕ) (known : Option (List ℕ)) → HasGone does s bytes bytes known known s
   gone_nothing s bytes known =
       record { done = []; taken = []; split = refl; ended = tt; ran = (refl, refl); appended = appends_nothing known }

@@ -19,7 +19,7 @@ use Rattle.streams.proofs.LineLemmas.{found_cut}
 use Rattle.replay_core.proofs.FrontLemmas.{read_ends, front_failed}
 use Rattle.replay_core.proofs.RunLemmas.{done_of_event}
 
--- if the bytes before the first LF of `rest`, read alone, are a request, it is the request at the front of `rest`
+-- if the bytes before the first LF of `rest` are read alone as a request, `rest` begins with the line of this request
 pub reads_alone : (rest : List ℕ) (end tenant : ℕ) (command : Command) → end < length rest → position (λ b. b == 10) rest ≡ Some end
     → reading_of (take end rest) ≡ Ok (Some (Tenant tenant command)) → ReadsAs rest tenant command (end + 1)
 reads_alone rest end tenant command within found reading =

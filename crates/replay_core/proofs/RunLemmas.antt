@@ -126,7 +126,8 @@ module _ {N : Type 0} (noting : Noting N) where
   AreRun only before notes lines taken s =
       (s.0.replies.only ≡ only) × HasRun only before s.1 lines taken (tally_of_run s.0) × AreNoted noting only before lines notes s.0.notes
 
-  -- if the lines `xs` were run, the text that the next line shows after them is `taken` and then `rest`
+  -- if the lines `xs` were run, and of the next line's output the drain took `taken` and not `rest`, the text that this line
+  -- shows after `xs` is `taken ++ rest`
   shown_now : (only : Option ℕ) (before : KernelContent) (notes : N) (xs : List (List ℕ)) (line sofar taken rest : List ℕ) (s s' : Run N × KernelContent)
       → AreRun only before notes xs sofar s → answers noting s line taken rest s'
       → (w : World) → Shows before w → shown_line only cache_limit before.order line (world_after cache_limit before.order w (events_of xs)) ≡ taken ++ rest

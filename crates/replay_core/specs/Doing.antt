@@ -26,8 +26,8 @@ pub record IsCutOff {S : Type 0} (does : S → List ℕ → List ℕ → List �
   pub ran : HaveRun does s done earlier mid
   pub did : does mid line here rest s'
 
--- One line, given by its bytes or its reading, was processed. If the result is Ok, the drain took all its output, and otherwise
--- not all.
+-- One line, given by its bytes or its reading, was processed. If the result is Ok, the drain took all of the line's output;
+-- otherwise it took only a part.
 pub record HasDone {S L : Type 0} (does : S → L → List ℕ → List ℕ → S → Type 0) (s : S) (line : L) (old new : Option (List ℕ))
     (result : Result (Unit {0}) Stopped) (s' : S) : Type 0 where
   pub taken : List ℕ

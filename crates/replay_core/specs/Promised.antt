@@ -1,5 +1,5 @@
--- What the drain takes in a replay keeps the promises. The promises leave open what only the definitions decide: which block and
--- which object a request gets, and which frames are freed.
+-- What the drain takes in a replay keeps the promises. The promises do not say which block or which object a request gets, or
+-- which frames are freed: only the definitions decide this.
 use Rattle.std.specs.Prelude.{ℕ, ◌≤◌, Bool, List, ◌++◌, Option, Result, Ok, Err}
 use Rattle.words_core.specs.Cutting.{lines_of_trace}
 use Rattle.kernel_core.specs.Content.{KernelContent}

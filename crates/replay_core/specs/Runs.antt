@@ -23,7 +23,7 @@ abbrev pub faults_of : List (List ℕ) → ℕ
 faults_of [] = 0
 faults_of (line ∷ lines) = fault_in (reading_of line) + faults_of lines
 
--- `tally` has the numbers of these lines, of their events and of their faults, and the number of bytes that the drain took
+-- `tally` has four counts: the lines, their events, the faulty lines among them, and the bytes that the drain took
 pub record Counts (tally : Tally) (done : List (List ℕ)) (taken : List ℕ) : Type 0 where
   pub lines : tally.lines ≡ length done
   pub events : tally.events ≡ length (events_of done)
@@ -51,7 +51,8 @@ pub record IsCutShort (only : Option ℕ) (before after : KernelContent) (lines 
   pub shown : (w : World) → Shows before w → IsCutIn (λ xs. shown_lines only cache_limit before.order xs w) lines line taken
   pub counted : Counts tally (lines ++ line ∷ []) taken
 
--- These are the first lines of the given bytes: each has ended in LF, or the feed has ended and they are all its lines.
+-- Either these lines are the first ones of the given lines that ended in LF, or the feed has ended and these are all lines that it
+-- gave.
 abbrev pub HasCome : Bool → List ℕ → List (List ℕ) → Type 0
 HasCome ended given lines = ((rest : List (List ℕ)) × (ended_lines given ≡ lines ++ rest)) ⊎ ((ended ≡ Bool.true) × (lines_of_trace given ≡ lines))
 

@@ -78,7 +78,7 @@ pub fn do_lines<S: Sink, F: Feed, D: Drain>(
     Ok(())
 }
 
-/// If there is a line whose end could not be read, passes it to the sink.
+/// If the end of a line could not be read, passes the beginning of this line to the sink.
 #[cold]
 fn see_unended<S: Sink>(pending: &Pending, sink: &mut S)
     requires more { (tail : List ℕ) × HoldsLine tail pending.now × (length tail ≤ S.lines_left sink.old) }
@@ -145,8 +145,8 @@ fn begin_piece<'a, S: Sink, D: Drain>(
 
 /// Processes the quick lines at the front of a piece and returns the rest of it. No beginning of a line may be pending.
 ///
-/// First, lines that end in LF are processed. Then, if the previous line ended in CR LF (`returned`), so are lines that end in CR
-/// LF.
+/// First, lines that end in LF are processed. Then, if the line before the piece ended in CR LF (`returned`), lines that end in
+/// CR LF are processed.
 #[inline(always)]
 fn do_quick_lines<'a, S: Sink, D: Drain>(
     piece: &'a [u8],
