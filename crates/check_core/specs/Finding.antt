@@ -128,8 +128,8 @@ abbrev pub or_broken : Result Known Promise → ℕ → ℕ → (Known → Findi
 or_broken (Ok after) line reply more = more after
 or_broken (Err promise) line reply more = Finding.Broken (record { line = line; reply = reply; promise = promise })
 
--- The finding for lines with these readings and the bytes of their replies, after `line` and `reply` lines of the two texts. It
--- is `Kept` if the reply to each line is allowed, and nothing follows the last reply.
+-- The finding for lines with these readings and the bytes of their replies, after `line` lines of the trace and `reply` lines of
+-- the replies. It is `Kept` if the reply to each line is allowed, and nothing follows the last reply.
 abbrev pub finding : ℕ → ℕ → List (Result (Option Event) LineFault) → List ℕ → Known → Finding
 finding line reply [] [] w = Finding.Kept line
 finding line reply [] (_ ∷ _) w = Finding.Broken (record { line = line; reply = reply + 1; promise = Promise.Form })

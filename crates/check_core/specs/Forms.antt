@@ -25,7 +25,7 @@ number_at text =
     let size = length (take_while is_ascii_digit text) in
     plain_number (take size text) >>= (λ number. Some (number, drop size text))
 
--- if the text begins with this byte, the result is no number, and the text after the byte
+-- if the text begins with this byte, the result is the text after the byte, with None in place of a number
 abbrev pub letter_at : ℕ → List ℕ → Option (Option ℕ × List ℕ)
 letter_at letter [] = None
 letter_at letter (b ∷ text) = if b == letter then Some (None, text) else None

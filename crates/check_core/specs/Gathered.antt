@@ -11,6 +11,6 @@ pub record Gathers (most : ℕ) (came : List ℕ) (g : Gathered most) : Type 0 w
 abbrev pub HasAdded : (most : ℕ) → List ℕ → (old new : Gathered most) → Type 0
 HasAdded most bytes old new = (front : List ℕ) → Gathers most front old → Gathers most (front ++ bytes) new
 
--- the bytes, if there are at most `most`
+-- all of the bytes, or None if there are more than `most` of them
 abbrev pub whole_of : ℕ → List ℕ → Option (List ℕ)
 whole_of most came = if nat_lt most (length came) then None else Some came

@@ -13,7 +13,7 @@ use Rattle.words_core.specs.declared.reply.TheConstants.{OWNERS}
 use Rattle.check_core.specs.Forms.{◌>>=◌, form_at}
 use Rattle.check_core.specs.Replies.{made_at, ◌or_else◌, fit_tenant, addressee_at, whole, answer_of}
 
--- the text that follows the front of a line, if the text begins with this front
+-- the rest of the text after this front, if the text begins with the front
 unfoldable pub after_front : List ℕ → List ℕ → Option (List ℕ)
 after_front front text = if bytes_eq (take (length front) text) front then Some (drop (length front) text) else None
 

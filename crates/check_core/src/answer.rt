@@ -13,8 +13,8 @@ use crate::said::said_at;
 use model_core::limits::MOST_BYTES;
 use words_core::{Addressee, Answer};
 
-/// Reads `text` as a whole reply of one line, with its line feed. Returns the addressee and the answer. The bytes of a read are
-/// stored in `buffer`. Returns `None` if `text` is not a reply of one line.
+/// Reads `text` as a whole reply of one line, with its line feed. Returns the addressee and the answer. If the answer is the
+/// bytes of a read, they are stored in `buffer`. Returns `None` if `text` is not a reply of one line.
 pub fn read_answer<'a>(
     text: &'a [u8],
     buffer: &'a mut [u8; MOST_BYTES],
