@@ -83,7 +83,7 @@ pushed_to old now new failing text rest written written' result failed had kept 
   failed = stopped ∙ sym failed;
 }
 
--- if the drain failed within the next part, the text was taken up to a byte of this part
+-- if the drain failed within the next part, it took the text only up to some byte of this part
 pub pushed_into : (old now new : Option (List ℕ)) (failing : Bool) (text rest line after : List ℕ) (written written' written'' : ℕ) (stopped : Stopped)
     (result : Result (Unit {0}) Stopped) → is_err result ≡ true
     → HasPushedBut old now text rest written written' → rest ≡ line ++ after → HasPushed now new failing line written' written'' (Err stopped)
@@ -100,7 +100,7 @@ pushed_into old now new failing text rest line after written written' written'' 
   failed = more.failed ∙ sym failed;
 }
 
--- if the drain failed within the first part of a text, the text was taken up to a byte of this part
+-- if the drain failed within the first part of a text, it took the text only up to some byte of this part
 pub pushed_begun : (old new : Option (List ℕ)) (failing : Bool) (line after : List ℕ) (written written' : ℕ) (stopped : Stopped)
     (result : Result (Unit {0}) Stopped) → is_err result ≡ true → HasPushed old new failing line written written' (Err stopped)
     → HasPushed old new failing (line ++ after) written written' result

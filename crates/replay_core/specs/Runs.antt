@@ -51,8 +51,8 @@ pub record IsCutShort (only : Option ℕ) (before after : KernelContent) (lines 
   pub shown : (w : World) → Shows before w → IsCutIn (λ xs. shown_lines only cache_limit before.order xs w) lines line taken
   pub counted : Counts tally (lines ++ line ∷ []) taken
 
--- Either these lines are the first ones of the given lines that ended in LF, or the feed has ended and these are all lines that it
--- gave.
+-- Either these lines are the first of the given lines that ended in LF, or the feed has ended and these are all lines that
+-- it gave.
 abbrev pub HasCome : Bool → List ℕ → List (List ℕ) → Type 0
 HasCome ended given lines = ((rest : List (List ℕ)) × (ended_lines given ≡ lines ++ rest)) ⊎ ((ended ≡ Bool.true) × (lines_of_trace given ≡ lines))
 
@@ -89,7 +89,7 @@ AreNoted noting only before lines notes notes' =
     (w : World) → Shows before w → notes' ≡ noted_lines noting only cache_limit before.order 1 lines w notes
 
 -- The notes after all lines that were run. If the feed failed, the unfinished line is noted too if it is faulty. If the drain
--- failed, the line whose reply was cut short is among the lines.
+-- failed, the line whose reply was cut short is one of the lines that were run.
 abbrev pub Noted : {N : Type 0} → Noting N → Bool → Option ℕ → KernelContent → List ℕ → Result Tally ReplayError → N → N → Type 0
 Noted noting ended only before given (Ok tally) notes notes' = AreNoted noting only before (lines_of_trace given) notes notes'
 Noted {N} noting ended only before given (Err (ReplayError.Feed tally)) notes notes' = (mid : N) × (tail : List ℕ)

@@ -99,7 +99,7 @@ impl<N: Notes> Sink for Run<N> {
             .show_to(addressee, answer, drain, &mut self.notes)
     }
 
-    // Not inlined: a function clears its stack frame on entry, and a reply of several lines takes 1.5 KB of it.
+    // Not inlined: a function clears its stack frame on entry, and only a reply of several lines takes 1.5 KB of it.
     #[cold]
     #[inline(never)]
     fn replied<D: Drain>(
