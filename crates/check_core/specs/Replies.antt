@@ -13,8 +13,8 @@ use Rattle.words_core.specs.Texts.{number_of_refusal, name_of_refusal, name_of_f
 use Rattle.words_core.specs.declared.reply.TheConstants.{REFUSALS}
 use Rattle.check_core.specs.Forms.{◌>>=◌, form_at}
 
--- the value that is made from the numbers in a form at the front of the text, if the numbers fit, and the text that follows the
--- form
+-- if the text begins with a match of the form, and the numbers in it fit: the value that is made from these numbers, and the text
+-- that follows the match
 abbrev pub made_at : {A : Type 0} → List ℕ → (List ℕ → Bool) → (List ℕ → A) → List ℕ → Option (A × List ℕ)
 made_at form fits make text =
     form_at form text >>= (λ found. if fits found.0 then Some (make found.0, found.1) else None)
