@@ -32,7 +32,7 @@ use Rattle.check_core.specs.Finding.{after_lines, lines_at, broken_by, finding, 
 
 -- Lines that are read as a reply
 
--- whatever bytes follow `k` gathered lines, the first `k` lines are read as the reply with the gathered text
+-- if `came` is `k` whole lines, and any bytes follow it, the reply in the first `k` lines is the reply that is read from `came`
 pub read_first : {k : ℕ} {came : List ℕ} {text : Gathered MOST_TEXT_BYTES} → HasGathered k came text → (more : List ℕ) → reply_in k (came ++ more) ≡ text_read came
 read_first come more = ap (λ (found : Option (List ℕ × List ℕ)). found >>= (λ parts. text_read parts.0)) (stand_first come more)
 
@@ -152,8 +152,8 @@ has_reply (Ok None) bytes w promise is = absurd cc
 has_reply (Ok (Some event)) bytes w promise is = tt
 has_reply (Err fault) bytes w promise is = tt
 
--- Let the next part of the trace be empty, or one line that has a reply. If the breach is at the last trace line up to the end of
--- this part, and at reply line `at + 1`, it is a breach at this part.
+-- Let `part`, the next part of the trace, be empty, or one line that has a reply. If the breach is at the last line of
+-- `asked ++ part`, and at reply line `at + 1`, it is a breach at `part`.
 pub breach_at : {now : Known} {line at : ℕ} (trace : Source) (w : Known) (asked told part answer : List ℕ) (breach : Breach) (readings : List Line)
     → IsBehind w asked told line at trace now → lines_at at told ≡ Some (told, []) → readings_of part ≡ readings → breach.line ≡ line + length readings
     → breach.reply ≡ at + 1 → IsLineOrNone readings → IsBreachAt w breach (asked ++ part) (told ++ answer) part answer

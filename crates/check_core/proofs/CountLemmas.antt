@@ -45,7 +45,7 @@ none_more (On.Tenant t Command.Report) w none =
     ap (λ exists. report_lines w t exists (slice_get w.states t)) (no_state w.states t none)
 none_more _ w none = refl
 
--- Events that name an existing tenant, or none
+-- Events that name an existing tenant, or name no tenant
 
 count_owners : (front : List ℕ) (superblock : ℕ) (owners : List (Option Owner)) → length (owner_texts front superblock owners) ≡ length owners
 count_owners front superblock [] = refl

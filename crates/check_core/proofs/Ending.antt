@@ -54,7 +54,7 @@ pub adds_at : (event : Event) (reply : Reply) (bytes : List ℕ) (m : SeenMachin
 adds_at event reply bytes m w found shown is =
     let after = is.allowed w shown in (reply, after.0, found, after.1, is.adds)
 
--- if the reply to a line is allowed, and memory may run out at one of the later lines, it may run out at one of all these lines
+-- if the reply to a line is allowed, and memory may run out at a later line, it may run out at one of the lines from this one on
 pub adds_later : (lines : ℕ) (reading : Result (Option Event) LineFault) (readings : List (Result (Option Event) LineFault)) (bytes : List ℕ)
     (w after : Known) → verdict_at reading bytes w ≡ Ok after → lines ≡ lines_to reading w → ComesToAdd readings (after_lines lines bytes) after
     → ComesToAdd (reading ∷ readings) bytes w

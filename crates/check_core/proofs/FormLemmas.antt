@@ -1,5 +1,5 @@
--- A text that matches a form is the form with its numbers filled in, and a form with numbers filled in matches with these
--- numbers.
+-- A text that matches a form is this form with the numbers found filled in. A form with numbers filled in matches the form, and
+-- the numbers found are these.
 use Rattle.std.proofs.Common.{rules, ◌≡◌, ℕ, zero, suc, ◌+◌, ◌-◌, ◌*◌, ◌^◌, ◌<◌, ◌≤◌, Bool, true, false, cond, not, ◌&&◌, List, [], ◌∷◌, ◌++◌, length, get_or, take, drop, fold, Option, Some, None, refl, sym, ◌∙◌, ap, subst, append_assoc, arith, take-append-drop}
 use Rattle.std.specs.Prelude.{decimal, ◌==◌, take_while}
 use Rattle.std.specs.List.{list_all, prefix_len, All}
@@ -104,7 +104,7 @@ abbrev pub form_text : List ℕ → List ℕ → List ℕ
 form_text [] ns = []
 form_text (mark ∷ form) ns = cond (mark == 35) (decimal (get_or ns 0 0) ++ form_text form (drop 1 ns)) (mark ∷ form_text form ns)
 
--- the form begins with a byte that may follow a `#`, which is neither a digit nor another `#`
+-- the form begins with a byte that is neither a digit nor a `#`, so that it may follow a `#`
 abbrev pub may_follow : List ℕ → Bool
 may_follow [] = false
 may_follow (b ∷ _) = not (is_ascii_digit b) && not (b == 35)

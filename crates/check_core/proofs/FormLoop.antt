@@ -14,7 +14,8 @@ onto_front front number None = refl
 onto_front front None (Some others) = ap (λ numbers. Some (numbers ++ others.0, others.1)) (sym (append-nil front))
 onto_front front (Some n) (Some others) = ap (λ numbers. Some (numbers, others.1)) (sym (append_assoc front (n ∷ []) others.0))
 
--- if one more byte of the form matches, its number, if it has one, is put at the end of `front`, and the total stays the same
+-- if the next byte of the form matches, and the number that it finds, if any, is put at the end of `front`, the result of the
+-- whole match stays the same
 pub goes_on : (front form next rest after : List ℕ) (mark : ℕ) (number : Option ℕ) (total : Option (List ℕ × List ℕ))
     → form ≡ mark ∷ next → mark_at mark rest ≡ Some (number, after) → with_front front (form_at form rest) ≡ total
     → with_front (front ++ onto number []) (form_at next after) ≡ total
@@ -50,7 +51,7 @@ letter b text = Some (None, text)
 abbrev numbered : Option (ℕ × List ℕ) → Found
 numbered found = found >>= (λ number. Some (Some number.0, number.1))
 
--- 2 if a number matches, 1 if another byte matches, and 0 if nothing matches
+-- 2 if a `#` matched a number, 1 if another byte of a form matched itself, and 0 if there was no match
 abbrev kind : Found → ℕ
 kind None = 0
 kind (Some (None, text)) = 1

@@ -1,4 +1,5 @@
--- A value that is made from the numbers in a form has the form's text, and this text is read as the value.
+-- A value that is made from the numbers that a form matches has the text of the form with these numbers. This text is read as the
+-- value.
 use Rattle.std.proofs.Common.{◌≡◌, ℕ, ◌^◌, ◌<◌, Bool, true, false, cond, List, [], ◌∷◌, ◌++◌, length, get_or, Option, Some, None, refl, sym, subst, ◌∙◌, ap, arith}
 use Rattle.std.specs.List.{All}
 use Rattle.std.proofs.lemmas.Bool.Decides.{nat_tests}

@@ -264,8 +264,8 @@ no_reply (Ok (Some event)) bytes w promise broken = λ reply rest after fits is 
 same_breach : (x y : Breach) → ◌≡◌ {A = Finding} (Broken x) (Broken y) → x ≡ y
 same_breach x y e = cc
 
--- The bytes `rest` are wrong for the lines `left`. The breach is at the first of these lines, or at the last line before them if
--- there is none. Its reply line is `at + 1`.
+-- The bytes `rest` are wrong for the lines `left`. The breach is at the first of these lines or, if `left` is empty, at the last
+-- line before it, line `before`. The reply line of the breach is `at + 1`.
 record IsEnd (left : List (List ℕ)) (rest : List ℕ) (w : Known) (before at : ℕ) (breach : Breach) : Type 0 where
   wrong : IsWrong left rest w
   line : breach.line ≡ before + length (take 1 left)

@@ -6,7 +6,7 @@ use Rattle.check_core.specs.Tables.{after_front, then_rows, rows_from}
 abbrev paired : {A : Type 0} → List A → List ℕ → List A × List ℕ
 paired rows text = (rows, text)
 
--- the rows and the text that were found, with `rows` put in front of the rows
+-- the rows and the text that were found, with `rows` put in front of the rows found
 abbrev pub with_rows : {A : Type 0} → List A → List A × List ℕ → List A × List ℕ
 with_rows rows found = (rows ++ found.0, found.1)
 

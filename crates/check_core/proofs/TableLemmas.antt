@@ -136,7 +136,7 @@ top_again (Some top) split rest fits small =
 abbrev after_head : List ℕ → List ℕ × List ℕ → Option (Body × List ℕ)
 after_head front head = some_top_at head.1 >>= with_top front head.0
 
--- the front and the text are the text of this table, and then `rest`
+-- the front followed by the text is the text of this table followed by `rest`
 abbrev Takes : List ℕ → List ℕ → Body → List ℕ → Type 0
 Takes front text body rest = (front ++ text ≡ with_end (body_texts front body) ++ rest) × (is_table body ≡ true)
 

@@ -13,8 +13,8 @@ use crate::shown::MOST_PART_BYTES;
 use streams::Feed;
 use words_core::{Event, LineFault, read_line};
 
-/// Reads the next line of a trace into `line`. Returns `None` at the end of the trace. Otherwise returns the line's event, no
-/// event if it is a blank line or a comment, or its fault. Fails with `Unchecked::Trace` if the trace cannot be read.
+/// Reads the next line of a trace into `line`. Returns `None` at the end of the trace. Otherwise returns the line's event or the
+/// line's fault; a blank line or a comment has neither. Fails with `Unchecked::Trace` if the trace cannot be read.
 pub fn next_reading<F: Feed>(
     trace: &mut LineReader<F>,
     line: &mut Gathered<MOST_PART_BYTES>,
@@ -38,7 +38,8 @@ pub fn next_reading<F: Feed>(
     Ok(Some(reading(line)))
 }
 
-/// Returns the event of a line, `None` if the line is blank or a comment, or its fault. An LF at the end of the line is ignored.
+/// Returns the event of a line, or `None` if the line is blank or a comment. Fails with the line's fault if it has one. An LF at
+/// the end of the line is ignored.
 pub(crate) fn reading(line: &Gathered<MOST_PART_BYTES>) -> Result<Option<Event>, LineFault>
     ensures { (part : List ℕ) → Gathers MOST_PART_BYTES part line.now → result ≡ reading_of (without_line_feed part) }
 {
