@@ -71,8 +71,8 @@ line_given piece start end at left room ended failed order fits empty within fou
       going_on = going_on;
     }
 
--- if a reader gives all bytes that it holds and then pulls more, its source has given exactly the bytes that were held before, and
--- the pulled bytes are held
+-- if a reader gives all bytes that it holds and then pulls more, its source has given exactly the bytes that were held before,
+-- and the pulled bytes are held
 pub all_given : (piece into : List ℕ) (start end count : ℕ) (old new : Option (List ℕ)) (room room' : ℕ) (ended failed ended' failed' : Bool)
     → start ≤ end → end ≤ length piece → (ended ≡ true → start ≡ end) → Consumes old new (take count into) → room' + count ≡ room
     → (ended ≡ true → HasEnded (held_source into 0 count new room' ended' failed'))
@@ -87,8 +87,8 @@ all_given piece into start end count old new room room' ended failed ended' fail
       none_later = λ has. (none_held mid (omega (arith, empty has.0, size)), stays has.0);
     }
 
--- if a reader gives all bytes that it holds and the next pull fails, its source has given exactly the bytes that were held before,
--- and no bytes are held
+-- if a reader gives all bytes that it holds and the next pull fails, its source has given exactly the bytes that were held
+-- before, and no bytes are held
 pub all_given_failed : (piece into : List ℕ) (start end : ℕ) (old new : Option (List ℕ)) (room room' : ℕ) (ended failed ended' failed' : Bool)
     → start ≤ end → end ≤ length piece → Keeps old new → room' ≡ room → (ended ≡ true → ⊥)
     → HasGiven (held_source piece start end old room ended failed) (held_source into end end new room' ended' failed') (mid_of start (end - start) piece)

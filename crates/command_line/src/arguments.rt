@@ -31,8 +31,8 @@ pub struct Program<'a> {
     pub unwritten: &'a str,
 }
 
-/// Returns the command of a program that needs a machine: the sizes with their ranges, and `--only`, whose help is the text
-/// `only`. The program adds its own arguments.
+/// Returns the command of a program that needs a machine. The command has the sizes, with their ranges, and `--only`, whose help
+/// is the text `only`. The program adds its own arguments.
 pub fn command<'a>(
     alloc: Global,
     program: Program<'a>,
@@ -47,8 +47,8 @@ pub fn command<'a>(
     )
 }
 
-/// Returns the command of a program that needs only the sizes of a machine, with their ranges. The program adds its own
-/// arguments.
+/// Returns the command of a program that needs only the sizes of a machine. The command has the sizes, with their ranges. The
+/// program adds its own arguments.
 pub fn sizes_command<'a>(alloc: Global, program: Program<'a>) -> Result<Command<'a>, AllocError>
     ensures { IfOk result (λ command. app_of command ≡ sizes_command program.entry.name.now) }
 {

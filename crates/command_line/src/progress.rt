@@ -142,8 +142,8 @@ impl<P: Eprint + Clock> Drop for Progress<'_, P> {
 /// Returns the progress of a run of `program` that begins now in the file at this path, or in standard input if there is no path.
 /// The run may read another file `beside` it.
 ///
-/// Returns `None` if progress is not `wanted`, if one of the files is not a regular file, if the first file is empty, if the
-/// files have at most 64 MiB in total, or if there is no clock.
+/// Returns `None` if progress is not `wanted`, if one of the files is not a regular file or its size cannot be read, if the first
+/// file is empty, if the files have at most 64 MiB in total, or if there is no clock.
 pub fn progress_in<'a, P: Files + Eprint + Clock>(
     rt: &'a P,
     program: Program<'a>,

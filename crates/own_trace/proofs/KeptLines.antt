@@ -58,7 +58,8 @@ own_list_both t limit order (event ∷ xs) ys w =
     let entries : List Entry = own_entries t event (world_step limit order event w).reply.body in
     ap (λ more. entries ++ more) (own_list_both t limit order xs ys (world_step limit order event w).world) ∙ sym (append_assoc entries _ _)
 
--- keeping a line only if it has entries puts its entries in front of the entries of the later lines
+-- if a line is kept only when it has entries, the entries of the kept lines are its entries, and then those of the later kept
+-- lines
 kept_entries : (t : ℕ) (run : RunLine) (more : List RunLine) (entries : List Entry) → own_list t run.exchanges ≡ entries
     → flat_map (λ run. own_list t run.exchanges) (cond (has_entry entries) (run ∷ more) more) ≡ entries ++ flat_map (λ run. own_list t run.exchanges) more
 kept_entries t run more [] is = refl

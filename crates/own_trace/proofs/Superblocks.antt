@@ -81,7 +81,7 @@ no_times test (x ∷ xs) none = go (test x) none (no_times test xs)
     go true none later = absurd (false≢true (sym none))
     go false none later = omega (arith, later none)
 
--- Let all superblocks in `xs` be those of tenant t, no two in the same slot. If `ys` has a superblock of t in each of these
+-- Let each superblock in `xs` be tenant t's, no two in the same slot. If `ys` has a superblock of t in each of these
 -- slots, at least as many superblocks in `ys` have an owner as there are superblocks in `xs`.
 pigeons : (t : ℕ) (xs ys : Owners) → list_all (is_of t) xs ≡ true → ((u : ℕ) → times (is_owner t u) xs ≤ 1)
     → ((u : ℕ) → list_any (is_owner t u) xs ≡ true → list_any (is_owner t u) ys ≡ true) → length xs + nobodys ys ≤ length ys

@@ -37,7 +37,7 @@ NamesEnd (Ok done) feed drain = (feed ≡ false) × (drain ≡ false)
 NamesEnd (Err KeepError.Feed) feed drain = (feed ≡ true) × (drain ≡ false)
 NamesEnd (Err KeepError.Drain) feed drain = (feed ≡ false) × (drain ≡ true)
 
--- a line was run, and this is its text in the tenant's own list: the line with an LF, or nothing
+-- a line was run, and `text` is what it adds to the text of the tenant's own lines: the line with an LF, or nothing
 pub record KeepsLine (t : ℕ) (line : List ℕ) (before after : KernelContent) (text : List ℕ) : Type 0 where
   pub sizes : SameSizes before after
   pub shows : (w : World) → Shows before w → Shows after (world_after cache_limit before.order w (event_in (reading_of line)))

@@ -1,4 +1,5 @@
--- If fewer than ten faulty lines are noted, one more is appended, and its note depends only on its first 256 bytes.
+-- If fewer than ten faulty lines are noted, the note of one more is appended. The first 256 bytes of the line are enough for its
+-- note.
 use Rattle.std.proofs.Common.{◌≡◌, ℕ, ◌<◌, Bool, List, [], ◌∷◌, ◌++◌, length, take, ap, sym, ◌∙◌, arith}
 use Rattle.std.specs.Prelude.{if◌then◌else◌}
 use Rattle.std.proofs.lemmas.List.{take-take}
