@@ -171,7 +171,7 @@ report_takes front text body rest e =
     ∙ (λ i. with_end (body_texts front (body_is i)) ++ rest_is i) in
     (taken, subst (λ (body : Body). is_table body ≡ true) body_is refl)
 
--- no row of an order is read from the text of cache rows, and no row of a cache is read from the empty text
+-- no row of an order is read from the text of cache rows, and no row of a cache or of an owner is read from the empty text
 no_order : (front : List ℕ) (order : ℕ) (rows : List CacheRow) → (after_front front (shown cache_line front 0 rows ++ []) >>= order_at order) ≡ None
 unfolding order_at form_at mark_at
 no_order front order [] = nothing_again front (order_at order) refl

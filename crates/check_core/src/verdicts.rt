@@ -138,7 +138,7 @@ fn judge_lines<R: Feed>(
 }
 
 /// Judges the lines that were gathered as the reply to an event. If they do not form a reply, `refused` must be the refusal in
-/// the first line, if there is one. Otherwise `refused` is not used.
+/// the first line, or `None` if that line is not a refusal. If they form a reply, `refused` is not used.
 #[inline(always)]
 fn judge_gathered(
     machine: &mut KnownMachine,

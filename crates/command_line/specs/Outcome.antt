@@ -128,8 +128,8 @@ requested_text Outcome.BadOnly = None
 requested_text Outcome.NoMemory = None
 
 -- How a program ends if its command line was refused, with its output before and after. If a text was requested, either all of it
--- is written and the outcome stays the same, or the outcome is `Unwritable`. If no text was requested, nothing is written, and the
--- outcome stays the same.
+-- is written and the outcome stays the same, or the outcome is `Unwritable`. If no text was requested, nothing is written, and
+-- the outcome stays the same.
 abbrev pub IsHandedOut : (refused ended : Outcome) → (before after : Option Text) → Type 0
 IsHandedOut refused ended before after = MatchOption (requested_text refused)
     ((ended ≡ refused) × Keeps before after)

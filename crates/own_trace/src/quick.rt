@@ -88,7 +88,7 @@ fn read_front<'a>(
     }
 }
 
-/// Runs a request. Returns true if the request is in the tenant's own list: it is there if the tenant made it, whatever the
+/// Runs a request, and returns whether it is in the tenant's own list. Every request of the tenant is in the list, whatever the
 /// answer was.
 #[inline(always)]
 fn run_request(asked: u32, request: Request<'_>, kernel: &mut Kernel, tenant: u8) -> bool
