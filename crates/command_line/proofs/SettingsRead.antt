@@ -86,7 +86,8 @@ pub machine_asked : (f : Found) (rows : List Row) (s : Settings) → rows_of f �
 machine_asked f rows s same asks =
     asks_machine (λ name. one_of name rows) (one_text f) (machine_of s) (λ name. sym (one_text-of_rows f rows same name)) asks.machine
 
--- if the rows request settings with `--own` alone, their `own` is valid for the machine and the flag that the matches give
+-- if the rows request settings, but not `--own` beside `--only` or `--tally`, the `own` of these settings is valid for the
+-- machine and the flag that the matches give
 pub own_fits : (f : Found) (rows : List Row) (m : MachineOptions) (s : Settings) (flag : Bool) → rows_of f ≡ rows
     → AsksMachine (one_text f) m → IsFlag (one_text f (codes "tally")) flag → Asks (λ name. one_of name rows) (λ name. first_of name rows) s
     → ((given : Bool) → IsFlag (one_of (codes "tally") rows) given → IsAlone s.own s.only given)
