@@ -30,7 +30,7 @@ use Rattle.partmem.proofs.ReplayOutcome.{IsNew, ends, given_so_far, of_trace, re
 abbrev pub kept_outcome : Result (Unit {0}) KeepError → (unsent flushed : Bool) → Outcome
 kept_outcome kept unsent flushed = after_flush (outcome_of_kept kept) unsent flushed
 
--- the result of a replay that ends as this result of `keep` does; all its counts are 0
+-- this result of `keep` as the result of a replay in which all counts are 0
 as_replayed : Result (Unit {0}) KeepError → Result Tally ReplayError
 as_replayed (Ok done) = Ok no_tally
 as_replayed (Err Kept.Feed) = Err (Failed.Feed no_tally)
@@ -64,7 +64,7 @@ own_reached kept unsent flushed failed before writer held taken same none append
     subst (λ outcome. HasReached outcome failed before writer held taken (take (length taken - length held) taken)) (same_outcome kept unsent flushed)
     (reached (as_replayed kept) unsent flushed failed before writer held taken same none appended)
 
--- for every outcome, the feed and the drain have failed as `EndsAs` states
+-- for every outcome, what `EndsAs` states about failures of the feed and the drain is true
 pub own_ends : (kept : Result (Unit {0}) KeepError) (ended unread undrained unsent flushed : Bool) → OnOk kept (ended ≡ true) → NamesEnd kept unread undrained
     → (unsent ≡ true → flushed ≡ false) → (undrained ≡ true → flushed ≡ false)
     → EndsAs (kept_outcome kept unsent flushed) ended unread (not flushed) unsent
@@ -117,8 +117,8 @@ cut_begins stays m t ended given more taken lines (inl (rest, split)) begins ove
 cut_begins stays m t ended given more taken lines (inr (is_over, all)) begins over =
     all_came m t given more taken (over is_over) (subst (λ xs. IsBeginning taken (own_of m.config t xs)) (sym all) begins)
 
--- Let a trace begin with the bytes given, and have no more bytes if the feed has ended. Then the bytes taken are a prefix of the
--- trace's own list, for every result of `keep`.
+-- Let a trace begin with the bytes given, and have no more bytes if the feed has ended. Then the bytes taken are a prefix of
+-- tenant t's own list of the trace, for every result of `keep`.
 own_begins : EndedLinesStay → (m : MachineOptions) (t : ℕ) (k k' : KernelContent) (ended : Bool) (given more taken : List ℕ) (kept : Result (Unit {0}) KeepError) → IsNew m k
     → KeepsOwn ended t k k' given taken kept → OnOk kept (ended ≡ true) → (ended ≡ true → more ≡ [])
     → IsBeginning taken (own_of m.config t (lines_of_trace (given ++ more)))
@@ -146,7 +146,7 @@ own_written stays m t k k' ended given taken (Err Kept.Feed) true flushed new ra
 own_written stays m t k k' ended given taken (Err Kept.Feed) false flushed new ran done = ran.kept _ new.shows ∙ at_order m t k (ended_lines given) new
 own_written stays m t k k' ended given taken (Err Kept.Drain) unsent flushed new ran done = own_unwritten stays m t k k' ended given taken (Err Kept.Drain) new ran done
 
--- if the whole trace is known, the bytes given are a prefix of it, and the bytes taken are a prefix of its own list
+-- if the whole trace is known, the bytes given are a prefix of it, and the bytes taken are a prefix of tenant t's own list of it
 pub own_traced : EndedLinesStay → (m : MachineOptions) (t : ℕ) (k k' : KernelContent) (ended : Bool) (given taken : List ℕ) (kept : Result (Unit {0}) KeepError) (unsent flushed : Bool)
     (known left : Option (List ℕ)) → IsNew m k → KeepsOwn ended t k k' given taken kept → OnOk kept (ended ≡ true) → Consumes known left given → (ended ≡ true → IsAtEnd left)
     → IfSome known (λ trace. IsOfTrace (kept_outcome kept unsent flushed) trace given (own_of m.config t (lines_of_trace trace)) taken)

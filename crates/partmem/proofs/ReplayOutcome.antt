@@ -53,7 +53,8 @@ private_at config (Some t) k given taken order shows own = λ tenant.
     subst (λ o. taken ≡ with_line_feeds (private_lines cache_limit o config.superblocks config.tenants t given)) order
     (own config.superblocks config.tenants shows tenant)
 
--- if the text of `line` was cut short, the bytes taken are a prefix of the text of any lines that begin with `done` and `line`
+-- if the text shown for `line` was cut short, the bytes taken are a prefix of the text shown for any lines that begin with `done`
+-- and `line`
 cut_first : (only : Option ℕ) (before after : KernelContent) (w : World) (lines done : List (List ℕ)) (line : List ℕ) (rest : List (List ℕ)) (taken : List ℕ) (tally : Tally)
     → Shows before w → lines ≡ (done ++ line ∷ []) ++ rest → IsCutShort only before after done line taken tally
     → IsBeginning taken (shown_lines only cache_limit before.order lines w)
@@ -64,7 +65,7 @@ cut_first only before after w lines done line rest taken tally shows split cut =
       ap (λ xs. shown_lines only cache_limit before.order xs w) split ∙ later.1 ∙ ap (λ text. text ++ later.0) part.4 ∙ append_assoc taken part.1 later.0,
     )
 
--- a prefix of the text of the ended lines of `given` is a prefix of the text of any trace that begins with `given`
+-- a prefix of the text shown for the ended lines of `given` is a prefix of the text shown for any trace that begins with `given`
 goes_on : ShownStays → (m : MachineOptions) (k : KernelContent) (given more taken : List ℕ) → IsNew m k
     → IsBeginning taken (shown_lines m.only cache_limit k.order (ended_lines given) (opening_world m.config.superblocks m.config.tenants))
     → IsBeginning taken (shown_replies m (lines_of_trace (given ++ more)))
@@ -74,7 +75,7 @@ goes_on stays m k given more taken new (rest, shown) =
       sym (at_order m k (lines_of_trace (given ++ more)) new) ∙ later.1 ∙ ap (λ text. text ++ later.0) shown ∙ append_assoc taken rest later.0,
     )
 
--- if no more bytes come, a prefix of the text of the bytes given is a prefix of the text of the whole trace
+-- if no more bytes come, a prefix of the text shown for the bytes given is a prefix of the text shown for the whole trace
 all_came : (m : MachineOptions) (given more taken : List ℕ) → more ≡ [] → IsBeginning taken (shown_replies m (lines_of_trace given))
     → IsBeginning taken (shown_replies m (lines_of_trace (given ++ more)))
 all_came m given more taken none begins =
@@ -92,7 +93,7 @@ cut_begins stays m k k' ended given more taken done line tally new (inr (is_over
     )
 
 -- Let a trace begin with the bytes given, and have no more bytes if the feed has ended. Then the bytes taken are a prefix of the
--- text of the trace, for every result of the replay.
+-- text shown for the trace, for every result of the replay.
 pub begins : ShownStays → (m : MachineOptions) (k k' : KernelContent) (ended : Bool) (given more taken : List ℕ) (replayed : Result Tally ReplayError) → IsNew m k
     → Replays ended m.only k k' given taken replayed → IsDone replayed ended → (ended ≡ true → more ≡ [])
     → IsBeginning taken (shown_replies m (lines_of_trace (given ++ more)))
@@ -104,7 +105,7 @@ begins stays m k k' ended given more taken (Err (Failed.Feed tally)) new ran don
 begins stays m k k' ended given more taken (Err (Failed.Drain tally)) new ran done over =
     cut_begins stays m k k' ended given more taken ran.0 ran.1 tally new ran.2 ran.3 over
 
--- for every result of the replay, the bytes taken are a prefix of the text of the bytes given
+-- for every result of the replay, the bytes taken are a prefix of the text shown for the bytes given
 pub unwritten : ShownStays → (m : MachineOptions) (k k' : KernelContent) (ended : Bool) (given taken : List ℕ) (replayed : Result Tally ReplayError) → IsNew m k
     → Replays ended m.only k k' given taken replayed → IsDone replayed ended → Answers m Unwritable given taken
 unwritten stays m k k' ended given taken replayed new ran done =
@@ -172,7 +173,7 @@ reached (Err (Failed.Feed tally)) false false true before writer held taken same
 reached (Err (Failed.Feed tally)) false false false before writer held taken same none appended = absurd cc
 reached (Err (Failed.Drain tally)) unsent flushed failed before writer held taken same none appended = (appended, refl)
 
--- for every outcome, the feed and the drain have failed as `EndsAs` states
+-- for every outcome, what `EndsAs` states about failures of the feed and the drain is true
 pub ends : (replayed : Result Tally ReplayError) (ended unread undrained unsent flushed : Bool) → IsDone replayed ended → NamesFailed replayed unread undrained
     → (unsent ≡ true → flushed ≡ false) → (undrained ≡ true → flushed ≡ false)
     → EndsAs (run_outcome replayed unsent flushed) ended unread (not flushed) unsent
@@ -205,7 +206,8 @@ of_trace P None left ended given consumed over fact = tt
 of_trace P (Some trace) None ended given consumed over fact = absurd consumed
 of_trace P (Some trace) (Some more) ended given consumed over fact = subst P (sym consumed) (fact more over)
 
--- for every outcome, if the whole trace is known, the bytes given are a prefix of it and the bytes taken are a prefix of its text
+-- for every outcome, if the whole trace is known, the bytes given are a prefix of it, and the bytes taken are a prefix of the
+-- text shown for it
 pub traced : ShownStays → (m : MachineOptions) (k k' : KernelContent) (ended : Bool) (given taken : List ℕ) (replayed : Result Tally ReplayError) (outcome : Outcome) (known left : Option (List ℕ))
     → IsNew m k → Replays ended m.only k k' given taken replayed → IsDone replayed ended
     → ((more : List ℕ) → (ended ≡ true → more ≡ []) → IsGiven outcome (given ++ more) given)

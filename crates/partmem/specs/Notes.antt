@@ -19,7 +19,7 @@ with_notes noting m lines notes =
 abbrev pub with_unended : {N : Type 0} → Noting N → List (List ℕ) → List ℕ → N → N
 with_unended noting lines tail notes = noted_fault noting (suc (length lines)) (take 256 tail) (reading_of tail) notes
 
--- `notes'` are the notes after the run, for each of its outcomes: `notes`, and then the notes of the `count` lines that were run.
+-- `notes'` are the notes after a run with this outcome: `notes`, and then the notes of the `count` lines that were run.
 -- If reading the trace failed, an unfinished line that is faulty is noted too.
 abbrev pub HasNoted : {N : Type 0} → Noting N → MachineOptions → Outcome → ℕ → Bool → List ℕ → N → N → Type 0
 HasNoted noting m Outcome.Done count ended given notes notes' = notes' ≡ with_notes noting m (lines_of_trace given) notes

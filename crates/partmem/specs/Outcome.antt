@@ -6,7 +6,7 @@ use Rattle.own_trace.specs.declared.keeping.KeepError.{KeepError}
 use Rattle.streams.specs.declared.tally.Tally.{Tally}
 use Rattle.streams.specs.declared.tally.ReplayError.{ReplayError}
 
--- the outcome of a run in which `keep` returned this result, before the last flush
+-- the outcome that a run has before its last flush, if `keep` returned this result
 abbrev pub outcome_of_kept : Result (Unit {0}) KeepError → Outcome
 outcome_of_kept (Ok done) = Outcome.Done
 outcome_of_kept (Err KeepError.Feed) = Outcome.Unreadable

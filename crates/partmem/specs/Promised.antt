@@ -8,7 +8,7 @@ use Rattle.promise_kept.specs.Written.{IsAllowedText}
 use Rattle.command_line.specs.declared.outcome.Outcome.{Outcome}
 use Rattle.command_line.specs.declared.machine_options.MachineOptions.{MachineOptions}
 
--- the text is that of allowed replies to these lines on a new machine: all replies, or with `only` those to one tenant
+-- the text is that of allowed replies to these lines on a new machine: all replies, or those to one tenant if `only` is given
 abbrev pub AreAllowed : MachineOptions → List (List ℕ) → List ℕ → Type 0
 AreAllowed m lines text =
     IsAllowedText m.only cache_limit m.config.order m.config.superblocks m.config.tenants lines text

@@ -13,7 +13,7 @@ use Rattle.command_line.specs.declared.outcome.Outcome.{Outcome}
 use Rattle.command_line.specs.declared.machine_options.MachineOptions.{MachineOptions}
 use Rattle.partmem.specs.Outcome.{no_tally}
 
--- the text that these lines show on a new machine: all replies, or with `only` those to one tenant
+-- the text that these lines show on a new machine: all replies, or those to one tenant if `only` is given
 abbrev pub shown_replies : MachineOptions → List (List ℕ) → List ℕ
 shown_replies m lines = shown_lines m.only cache_limit m.config.order lines (opening_world m.config.superblocks m.config.tenants)
 
@@ -46,8 +46,8 @@ Answers m Outcome.BadOnly given written = ⊥
 abbrev pub IsHeldBack : (before writer : Option (List ℕ)) → (held written sent : List ℕ) → Type 0
 IsHeldBack before writer held written sent = Appends before (append_known writer held) written × (sent ≡ take (length written - length held) written)
 
--- `sent` are the bytes that the writer took in the run, for each of its outcomes: all bytes written, or those that a failed drain
--- does not hold back. `before` are the bytes that the drain had taken before the run.
+-- `sent` are the bytes that the writer took in a run with this outcome: all bytes written, except those that a failed drain holds
+-- back. `before` are the bytes that the drain had taken before the run.
 abbrev pub HasReached : Outcome → (failed : Bool) → (before writer : Option (List ℕ)) → (held written sent : List ℕ) → Type 0
 HasReached Outcome.Done failed before writer held written sent = (sent ≡ written) × Appends before writer written
 HasReached Outcome.Unreadable false before writer held written sent = (sent ≡ written) × Appends before writer written

@@ -56,7 +56,7 @@ fn main(rt: HostRuntime) -> ExitCode {
 #[derive(Drop)]
 struct Ran {
     ended: Ended,
-    /// Why the trace could not be opened, or with `--tally` could not be read.
+    /// Why the trace could not be opened or, with `--tally`, why it could not be read.
     error: Option<FileError>,
     /// The notes, if they were requested.
     notes: Option<RunNotes>,
@@ -213,7 +213,7 @@ fn tell_run(rt: &impl Eprint, settings: &Settings, ran: Ran) -> ExitCode {
 }
 
 /// Prints the count of each refusal, and the first faulty lines. If the replies could not be written, some of the counted
-/// refusals may be missing from the output, so these lines say `answered`.
+/// refusals may be missing from the output, so the line of each count then ends with `answered`.
 fn tell_notes(rt: &impl Eprint, notes: &RunNotes, outcome: &Outcome) {
     let counted = match outcome {
         Outcome::Unwritable => " answered",

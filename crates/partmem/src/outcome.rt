@@ -28,7 +28,7 @@ impl Ended {
     }
 }
 
-/// Returns the outcome of a run in which [`own_trace::keep`] returned this result, before the last flush.
+/// Returns the outcome that a run has before its last flush, if [`own_trace::keep`] returned this result.
 pub fn outcome_of_kept(kept: &Result<(), KeepError>) -> Outcome
     ensures { result ≡ outcome_of_kept kept.now }
 {

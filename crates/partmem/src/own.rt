@@ -1,4 +1,4 @@
-//! Runs a trace on a new machine and writes a tenant's own list of it.
+//! Runs a trace on a new machine and writes a tenant's own list of the trace.
 
 ghost use Rattle.std.specs.Prelude.{◌≡◌, ◌≤◌, ℕ, false, List, length, IfSome};
 ghost use Rattle.std.specs.Io.KnownBytes.{Appends, Consumes};
