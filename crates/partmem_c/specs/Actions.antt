@@ -61,9 +61,8 @@ abbrev pub AreOf : List Done → List Action → Type 0
 AreOf [] actions = actions ≡ []
 AreOf (done ∷ all) actions = (first rest : List Action) × IsOf done first × AreOf all rest × (actions ≡ first ++ rest)
 
--- From boot on, everything that is done with a machine is a list of actions: lines, events, calls, stores and loads, in any
--- order. Over these actions, a tenant sees what its private machine returns for the tenant's own list, whatever the other
--- tenants do.
+-- Lines, events, calls, stores and loads, done with a machine from boot on in any order, are a list of actions of its kernel.
+-- Over these actions, a tenant sees what its private machine returns for the tenant's own list, whatever the other tenants do.
 abbrev pub OwnSightsOfCalls : Type 0
 OwnSightsOfCalls = (k k' : KernelContent) (superblocks tenants t : ℕ) (all : List Done) →
     IsBooted k superblocks tenants → t < tenants → AllDid k all k' →

@@ -51,7 +51,8 @@ abbrev pub bytes_in_reply : Option Reply → List ℕ
 bytes_in_reply None = []
 bytes_in_reply (Some reply) = answered_bytes reply.body
 
--- The arguments make no event of the call, and nothing changes. The status is NOT_AN_EVENT, or NO_MACHINE if there is no machine.
+-- The arguments of the call are not those of an event, and nothing changes. The status is NOT_AN_EVENT, or NO_MACHINE if there is
+-- no machine.
 abbrev pub IsNoEvent : Option KernelContent → Option KernelContent → ℕ → Type 0
 IsNoEvent old new status = (new ≡ old) × (status ≡ (if is_some old then NOT_AN_EVENT else NO_MACHINE))
 
@@ -108,7 +109,7 @@ pub record ReadsOver (old : KernelContent) (event : Event) (new : KernelContent)
 abbrev pub read_length : ℕ → ℕ
 read_length len = min len (2 ^ 32 - 1)
 
--- whether these bytes can be written by one write: they are 1 to 64
+-- whether there are 1 to 64 of these bytes, so that one write can write them
 abbrev pub is_writable : List ℕ → Bool
 is_writable bytes = nat_le 1 (length bytes) && nat_le (length bytes) MOST_BYTES
 

@@ -62,8 +62,8 @@ pub record AreAround (k : KernelContent) (t frame : ℕ) (kind : FrameKind) (aro
       (λ b. (taken_of (holding_of t k.buddy) b.0 ≡ Some b.1) × HasFrame (block b.0 b.1) frame)
   pub is : around ≡ unwrap_or taken (untaken kind frame k.order)
 
--- The frame has a kind in the private machine of the tenant. `found` has the use for this kind, and the place and the size in
--- bytes of the block around the frame.
+-- The frame has a kind in the private machine of the tenant. `found` has the use of a frame of this kind, and the place and the
+-- size in bytes of the block around the frame.
 pub record IsBlockAt (k : KernelContent) (t frame : ℕ) (found : Block) : Type 0 where
   pub kind : FrameKind
   pub is : (m : Machine) → ShowsMachine k t m → IsFrame k.order m frame kind

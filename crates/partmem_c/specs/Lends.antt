@@ -47,7 +47,7 @@ FindsWholeBlock k t place (Err refusal) =
     IsNotLent k t (λ why. (why ≡ Refusal.OutOfReach)
     × ((m : Machine) → ShowsMachine k t m → IsTaken (order_in m.blocks) (place / FRAME_BYTES) → ⊥)) refusal
 
--- the live object of a cache that begins at a place
+-- the cache's live object that begins at a place
 abbrev pub FindsObject : KernelContent → ℕ → ℕ → ℕ → Result Lent Refusal → Type 0
 FindsObject k t cache place (Ok lent) = (t < k.tenants)
     × ((m : Machine) → ShowsMachine k t m → HasObject m cache place lent.bytes) × IsLentAt place lent.bytes lent

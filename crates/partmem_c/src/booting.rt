@@ -27,7 +27,7 @@ pub struct MachineConfig {
 
 /// Boots a machine in a storage that holds no machine. All memory of the machine reads as zero, and no superblock has an owner.
 ///
-/// Fails with `HAS_MACHINE`, `BAD_CONFIG`, or `NO_MEMORY` if an allocation was refused. No later call allocates.
+/// Fails with `HAS_MACHINE`, with `BAD_CONFIG`, or, if an allocation was refused, with `NO_MEMORY`. No later call allocates.
 #[unsafe(no_mangle)]
 pub extern "C" fn partmem_boot_kernel(
     alloc: Global,

@@ -32,7 +32,7 @@ pub const TAKE_BACK: u32 = 2;
 pub const RESET: u32 = 3;
 /// The administrator moves slot `first` of the tenant to another superblock.
 pub const MOVE: u32 = 4;
-/// The administrator requests the table of owners. The reply has the number of superblocks.
+/// The administrator requests the table of owners. The reply has only the number of superblocks.
 pub const POOL: u32 = 5;
 /// The tenant requests a page block of order `first`.
 pub const ALLOC: u32 = 6;

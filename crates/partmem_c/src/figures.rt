@@ -23,7 +23,7 @@ pub struct OrderFigures {
     pub taken: u32,
 }
 
-/// A cache: its number, the numbers of its full, partial and empty slabs, and the number of its live objects.
+/// A cache: its number, how many of its slabs are full, partial and empty, and how many of its objects are live.
 #[repr(C)]
 #[derive(Clone, Copy, Debug)]
 pub struct CacheFigures {
@@ -46,11 +46,11 @@ pub struct Figures {
     pub free: u32,
     /// The size of a largest free block in bytes, or 0 if no frame is free.
     pub greatest: u32,
-    /// The share of the free frames outside one largest free block, in thousandths, rounded up.
+    /// The share of the free frames that are outside one largest free block, in thousandths, rounded up.
     pub split: u32,
-    /// The number of used rows of `order`, from order 0 on.
+    /// The number of used rows of `order`. The first row is that of order 0.
     pub orders: u32,
-    /// The number of used rows of `cache`, in ascending order of the caches' numbers.
+    /// The number of used rows of `cache`. The rows are in ascending order of the caches' numbers.
     pub caches: u32,
     pub order: [OrderFigures; ORDERS],
     pub cache: [CacheFigures; CACHES],

@@ -39,7 +39,7 @@ impl Lent {
 
 /// Stores in `to` the address, the place and the number of the lent bytes, or zeros if the call is refused. Returns the status.
 ///
-/// `to` is written only here. If zeros were stored first, each call that succeeds would write `to` twice.
+/// Callers do not set `to` to zeros first, since each call that succeeds would then write `to` twice.
 #[inline(always)]
 pub(crate) fn put_lent(outcome: Result<Lent, Refusal>, to: &mut Lent) -> u32
     ensures { Returns no_lent outcome result to.new }
@@ -158,7 +158,7 @@ fn lend_block(kernel: &mut Kernel, tenant: u32, place: u32) -> Result<Lent, Refu
     Ok(lent_of(kernel, span))
 }
 
-/// Lends the live object of a cache that begins at a place.
+/// Lends the cache's live object that begins at a place.
 ///
 /// Fails with `NO_MACHINE`, `NO_TENANT`, `NO_CACHE` or `NOT_AN_OBJECT`.
 #[unsafe(no_mangle)]

@@ -86,7 +86,7 @@ const MOST_SHORT_LINE: usize = 160;
 /// Runs a line on the kernel, writes the answer to the front of `buffer`, and returns the number of the answer's bytes. Returns
 /// `None` and does nothing if the line has a line feed.
 ///
-/// A line that is read as one quick request has no line feed, so it is not searched for one.
+/// A line that is read as one quick request contains no line feed, so such a line is not searched for line feeds.
 #[inline(always)]
 fn run_line(kernel: &mut Kernel, line: &[u8], buffer: &mut [u8]) -> Option<usize>
     requires { IsWide buffer.old }
@@ -215,7 +215,8 @@ fn answer_request(
 }
 
 /// Does what [`answer_request`] does for the command with the number `COMMAND`. Each command has its own instance with one
-/// caller. A function with one caller is always inlined, so the compiler knows which answers are possible where they are written.
+/// caller. A function with one caller is always inlined. So the compiler knows, where an answer is written, which answers are
+/// possible.
 #[inline]
 fn answer_as<const COMMAND: usize>(
     tenant: u32,

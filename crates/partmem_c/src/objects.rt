@@ -122,7 +122,7 @@ fn take_object(kernel: &mut Kernel, tenant: u32, cache: u32) -> Result<Lent, Ref
     Ok(lent_of(kernel, span))
 }
 
-/// Gives back the object of a cache that begins at a place.
+/// Gives back the cache's object that begins at a place.
 ///
 /// Fails with `NO_MACHINE`, `NO_TENANT`, `NO_CACHE` or `NOT_AN_OBJECT`.
 #[unsafe(no_mangle)]
