@@ -6,8 +6,10 @@
 //! other statuses. [`lends`] lends bytes in place; [`lookups`], [`holders`], [`figures`] and [`owners`] look things up.
 //!
 //! An exported function tests for every mistake of the C caller that does not itself break memory. After an error or a refusal,
-//! the machine is unchanged and the results are zeros. Buffers and the reply of [`events::partmem_event`] are exceptions: they
-//! stay unchanged. Whatever numbers C passes, an exported function writes only to the machine and to its results.
+//! the machine is unchanged and the results are zeros, except that buffers stay unchanged. [`events::partmem_event`] and
+//! [`lines::partmem_line`] report a refusal as a reply, with the status [`status::DONE`]. After an error, the reply of
+//! `partmem_event` stays unchanged too. Whatever numbers C passes, an exported function writes only to the machine and to its
+//! results.
 #![tactic(auto)]
 
 pub mod booting;
