@@ -1,4 +1,4 @@
--- Everything that is done with a machine of the library is a list of actions of its kernel. For this list, each tenant sees what
+-- Everything that is done with a machine of the library is a list of actions of its kernel. In this list, each tenant sees what
 -- its private machine returns.
 use Rattle.std.proofs.Common.{ℕ, List, [], ◌∷◌, ◌++◌, Option, Some, None, Result, Ok, Err, refl, subst}
 use Rattle.words_core.specs.declared.event.Event as events

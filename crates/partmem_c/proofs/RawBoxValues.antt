@@ -1,4 +1,5 @@
--- The values of a `RawBox` in MIR, and steps of proofs that take what it owns out of it, or put it in. Assumes `Logic`.
+-- The values of a `RawBox` in MIR, and two steps of proofs: `raw_out` replaces a `RawBox` by what it owns, and `raw_in` makes a
+-- `RawBox` from what it owns. Assumes `Logic`.
 use Rattle.std.proofs.Common.{◌≡◌, ℕ, List, [], ◌∷◌, ◌++◌, refl, subst}
 use mathlib.Core.Bool.{true, ◌&&◌}
 use lib.Dec.{T}

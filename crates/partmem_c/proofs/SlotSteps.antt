@@ -1,4 +1,5 @@
--- Steps of handwritten proofs that take what a slot owns out of it, or put it in. Assumes `Logic`.
+-- Two steps of handwritten proofs: `slot_out` replaces a slot by what it owns, and `slot_in` makes a slot from what it owns.
+-- Assumes `Logic`.
 use Rattle.std.proofs.Common.{◌≡◌, List, [], ◌∷◌, ◌++◌, true, Option, Some, None, is_some, refl, subst}
 use mathlib.Core.Bool.{◌&&◌}
 use lib.Dec.{T, lit<}

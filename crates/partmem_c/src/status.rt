@@ -4,7 +4,7 @@
 /// The call was done.
 pub const DONE: u32 = 0;
 
-/// There is no machine: none was booted, or it has ended.
+/// There is no machine: either none was booted yet, or the last one has ended.
 pub const NO_MACHINE: u32 = 32;
 
 /// There is already a machine. It is unchanged.
