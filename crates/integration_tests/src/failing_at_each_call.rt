@@ -43,9 +43,9 @@ fn ends_fail_at_each_call_of_long_lines(rt: HostRuntime) -> Result<(), Fail> {
     fails_at_each_call(&rt, &table, &trace, REPLIES)
 }
 
-/// Runs a trace on new machines of a table's sizes: with a feed that fails at call 1, then at call 2, and so on, until it does
-/// not fail. Then it does the same with a drain. Pieces have one byte if only one tenant's lines are shown, and 20 bytes
-/// otherwise.
+/// Runs a trace on new machines of a table's sizes. The feed fails at call 1 in the first run, at call 2 in the second, and so
+/// on, until a run succeeds. In the runs after that, the drain fails in the same way. Pieces have one byte if only one tenant's
+/// lines are shown, and 20 bytes otherwise.
 fn fails_at_each_call(
     rt: &(impl AllocGlobal + Abort),
     table: &Table,

@@ -95,8 +95,8 @@ const ROOMS: [(u64, End, u64, u128); 4] = [
 /// The length of the trace in bytes.
 const LEN: u64 = TRACE.len() as u64;
 
-/// When a feed has reached its limit, it reads once more. If the reader has no more bytes, the feed ends. If it has more, the
-/// feed fails.
+/// When a feed has reached its limit, it reads once more. If the reader has no more bytes, the feed ends. If the reader has
+/// more, the feed fails.
 #[test]
 fn room_ends(rt: HostRuntime) -> Result<(), Fail> {
     for (room, end, lines, written) in ROOMS {

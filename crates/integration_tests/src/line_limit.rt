@@ -1,5 +1,5 @@
-//! A feed with a limit on its line feeds. When it has returned as many line feeds as the limit, its next pull fails, unless the
-//! feed ended before.
+//! A feed with a limit on its line feeds. When it has returned as many line feeds as the limit, its next pull fails, even if no
+//! bytes are left.
 
 use streams::{Feed, LineLimit, ReaderFeed, Stopped};
 

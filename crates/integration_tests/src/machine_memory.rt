@@ -6,7 +6,7 @@ use kernel_core::Kernel;
 use std::alloc::Global;
 use std::test::Fail;
 
-/// Lines of a trace, and a superblock after them: its number, its byte 0, its byte 4095, and whether it is marked.
+/// Lines of a trace, and the state of a superblock after these lines: its number, byte 0, byte 4095, and whether it is marked.
 type Step = (&'static [u8], u16, u8, u8, bool);
 
 /// Written bytes are in the memory of the machine. They stay there after a take-back, which marks the superblock. The next grant
@@ -66,7 +66,7 @@ const FULLEST: &[u8] = b"\xff\xff\xff\xff\xff\xff\xff\xff\xff\xff\xff\xff\xff\xf
 /// the end of that frame, without the record's last zeroes.
 type Case = (&'static [u8], u32, &'static [u8], u16, usize, &'static [u8]);
 
-/// A record has one bit for each object, and bit 0 of its first byte is for the first object. The bit is 1 if the object is live.
+/// A record has one bit for each object, and bit 0 of its first byte is for the first object. A bit is 1 if its object is live.
 /// The bits after the last object are 0. A freed slab leaves a record of zeroes, and a move copies the record. A slab of large
 /// objects has no record: the end of its frame belongs to an object.
 const CASES: [Case; 8] = [

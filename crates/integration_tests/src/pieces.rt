@@ -119,8 +119,8 @@ impl Drain for PieceDrain {
 
     ghost has_failed = { λ s. s.failed };
 
-    // A text is taken by one push. So a push must be left, it must take `TEXT_BYTES` bytes, and the array must have space for
-    // them.
+    // The drain takes a text in one push. So at least one good push must be left, a push must take `TEXT_BYTES` bytes, and the
+    // array must have space for these bytes.
     ghost is_roomy = { λ s. nat_le 1 s.good_pushes && (nat_le TEXT_BYTES s.piece && nat_le (s.len + TEXT_BYTES) BUFFER_BYTES) };
 
     fn push(&mut self, bytes: &[u8]) -> Result<usize, Stopped> {

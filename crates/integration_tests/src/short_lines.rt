@@ -1,4 +1,5 @@
-//! Lines that the quick reader must read. It is proved that what it reads is right, but not that it reads these lines.
+//! Lines that the quick reader must read. The proofs say that each line that it reads is read correctly, but not that it reads
+//! these lines.
 
 use model_core::limits::MOST_BYTES;
 use quick_core::{WINDOW, read_request};
@@ -15,7 +16,7 @@ fn window_of(line: &[u8]) -> [u8; WINDOW] {
     window
 }
 
-/// The numbers of tenants in lines. Each line has one of `NUMBERS` too.
+/// The tenants that the lines name. Each line also has one of `NUMBERS`.
 const TENANTS: [u32; 6] = [0, 1, 9, 10, 63, 999];
 
 const NUMBERS: [u32; 8] = [0, 1, 9, 10, 255, 4096, 12_345, 999_999_999];

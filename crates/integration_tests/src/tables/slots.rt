@@ -1,4 +1,4 @@
-//! Superblocks that are granted, taken back and reset.
+//! Superblocks that are granted and taken back, and tenants that are reset.
 
 use super::Row;
 
