@@ -1,8 +1,8 @@
 //! Makes one call after a number of allocations, and prints the result of the call.
 //!
 //! Standard input is a line `SPENT CALL`. First SPENT allocations are made and freed, and then the call with the name CALL is
-//! made. `tests/refused-growths` refuses the allocation with a fixed number in each run. SPENT decides which allocation of the
-//! call has this number, and the test tries all of them.
+//! made. In every run, `tests/refused-growths` refuses the allocation with one number, which is the same for all runs. So SPENT
+//! decides which allocation of the call is refused, and the test tries all of them.
 #![tactic(auto)]
 
 use buddy_core::Buddy;
