@@ -4,7 +4,7 @@ use Rattle.std.proofs.lemmas.Bool.{cases_order}
 use Rattle.std.proofs.lemmas.Option.{slice_get_within, slice_get-get_or, get_or_from_slice_get}
 use Rattle.std.proofs.lemmas.List.{get_or-set_same, get_or-set_other}
 
--- if P is true of all elements before index i, and of v, then after v is set at index i it is true of all elements up to i
+-- if P is true of all elements before index i, and of v, then P is true of all elements up to index i after v is set there
 pub more_set : {X : Type 0} (d : X) (P : ℕ → X → Type 0) (xs : List X) (i : ℕ) (v : X) → i < length xs
     → ((k : ℕ) → k < i → P k (slice_index_or xs k d)) → P i v → (k : ℕ) → k < i + 1 → P k (slice_index_or (slice_set xs i v) k d)
 more_set {X} d P xs i v within before here k less = go (cases_order k i)

@@ -29,8 +29,8 @@ listed_more order t first end sheets listed j sheet within there is =
     ∙ ap (λ cells. listed_cells order t first end sheets (take j listed) ++ cells)
     (append-nil _ ∙ ap (cells_of order t first end) (slice_get-get_or sheets (slice_index listed j) sheet there ∙ ap Some (sym is)))
 
--- if the old counts are those of the cells before, and the cells of one more sheet are counted too, the new counts are those of
--- all these cells
+-- if the old counts are the counts of the cells `before`, and the cells `here` of one more sheet are counted too, the new counts
+-- are the counts of both together
 pub counts_more : (before here after : List FrameKind) (old new : List ℕ) → after ≡ before ++ here
     → ((k : ℕ) → k < 6 → length before < 2 ^ 64 → get_or old k 0 ≡ count_by (λ cell. rank_of cell == k) before)
     → ((k : ℕ) → k < 6 → get_or old k 0 + length here < 2 ^ 64 → get_or new k 0 ≡ get_or old k 0 + count_by (λ cell. rank_of cell == k) here)
@@ -42,8 +42,8 @@ counts_more before here after old new more was counted k less fits =
     let few : count_by test before ≤ length before = count_by-le-length test before in
     counted k less (omega (arith, fits, long, is, few)) ∙ ap (λ n. n + count_by test here) is ∙ sym (ap (count_by test) more ∙ sum_by-append _ before here)
 
--- if the old total is the number of the cells before, and the cells of one more sheet are added, the new total is the number of
--- all these cells
+-- if the old total is the number of the cells `before`, and the number of the cells `here` of one more sheet is added, the new
+-- total is the number of both together
 pub shown_more : (before here after : List FrameKind) (old new : ℕ) → after ≡ before ++ here → (length before < 2 ^ 64 → old ≡ length before)
     → new ≡ min (old + length here) 18446744073709551615 → length after < 2 ^ 64 → new ≡ length after
 shown_more before here after old new more was is fits =

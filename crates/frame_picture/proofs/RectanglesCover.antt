@@ -1,4 +1,5 @@
--- The rectangles of a tone contain all its cells, and no other cells.
+-- The rectangles of a tone contain all its cells, and no other cells. A rectangle ends before column c if its last column is
+-- c - 1.
 use Rattle.std.proofs.Common.{◌≡◌, ◌≢◌, ℕ, zero, suc, ◌+◌, ◌-◌, ◌<◌, ◌≤◌, true, false, List, [], ◌∷◌, ◌++◌, Some, Any, length, drop, take, get_or, slice_get, ap, subst, sym, ◌∙◌, refl, ◌⊎◌, inl, inr, arith, length-append}
 use Rattle.std.proofs.lemmas.Bool.{cases_order, cases_Bool, cases_eq, cases_lt, cond-true, cond-false, false≢true}
 use Rattle.std.proofs.lemmas.List.{get_or-drop, get_or-take, length-drop, length-take, get_or_append_left}
@@ -172,8 +173,8 @@ module _ (columns : List (List Tone)) (tone : Tone) (rows : ℕ) (rectangles : L
       let run : run_at tone (take rows cells) r.row ≡ r.rows = sym (runs_here r.row) ∙ rectangle.same column has.left has.right in
       run_has_tone tone (take rows cells) r.row row cell has.lower (omega (arith, has.upper, run)) (read_here cell)
 
-  -- Let a run that begins at row `first` of the column contain the cell. Let each column up to e - 1 have an equal run at this
-  -- row, but not column e. Then a rectangle that ends before column e contains the cell.
+  -- Let a run that begins at row `first` of the column contain the cell. Let each column from this one to e - 1 have an equal run
+  -- at row `first`, but not column e. Then a rectangle that ends before column e contains the cell.
   ends_there : (first e : ℕ) → first ≤ row → row < first + run_in columns tone rows first column
       → IsUntil (run_in columns tone rows first) (run_in columns tone rows first column) (length columns) column e
       → GoesOn (run_in columns tone rows first) (length columns) e ⊎ Any (λ r. (r.row ≡ first) × (r.column + r.columns ≡ e)) rectangles
@@ -222,7 +223,7 @@ module _ (columns : List (List Tone)) (tone : Tone) (rows : ℕ) (rectangles : L
       let last = until (run_in columns tone rows first) (run_in columns tone rows first column) (length columns) column (length columns - column - 1) (omega arith) refl in
       ends_there first last.0 from to last.1 (are.all last.0 first (omega (arith, last.1.more)) last.1.most (omega arith))
 
--- so the rectangles of a tone contain exactly its cells
+-- if these are all rectangles of a tone in the first `rows` rows, they contain exactly the tone's cells in these rows
 pub covers : (columns : List (List Tone)) (tone : Tone) (rows : ℕ) (rectangles : List Rectangle)
     → AreRectangles columns tone rows rows 0 (length columns) rectangles → CoverTone columns tone rows rectangles
 covers columns tone rows rectangles are column row cells cell there here shown = (
@@ -256,8 +257,8 @@ rows_none columns tone rows from to = record {
   all = λ end row above upto less. absurd (omega arith);
 }
 
--- all rectangles for the columns from + 1 to `mid`, and all for the columns mid + 1 to `to`, are together all for the columns
--- from + 1 to `to`; a rectangle is for a column if it ends before this column
+-- if all rectangles that end before one of the columns from + 1 to `mid` are joined with all that end before one of the columns
+-- mid + 1 to `to`, the result is all rectangles that end before one of the columns from + 1 to `to`
 pub rectangles_on : (columns : List (List Tone)) (tone : Tone) (rows height from mid to : ℕ) (front back : List Rectangle) → mid ≤ to
     → AreRectangles columns tone rows height from mid front → AreRectangles columns tone rows height mid to back
     → AreRectangles columns tone rows height from to (front ++ back)

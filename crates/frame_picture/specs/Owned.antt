@@ -15,8 +15,8 @@ abbrev pub listed_cells : ℕ → ℕ → ℕ → ℕ → List Sheet → List �
 listed_cells order t first end sheets [] = []
 listed_cells order t first end sheets (i ∷ listed) = cells_of order t first end (slice_get sheets i) ++ listed_cells order t first end sheets listed
 
--- The listed indices are indices of sheets. The listed sheets have all cells of tenant t in the sheets before `rest`, in the same
--- order.
+-- The listed indices are indices of sheets. In the listed sheets, tenant t has the same cells in the same order as in all sheets
+-- before index `rest`.
 pub record IsOwn (t : ℕ) (sheets : List Sheet) (own : OwnSheets) : Type 0 where
   pub rest : own.rest ≤ length sheets
   pub few : own.len ≤ length own.listed

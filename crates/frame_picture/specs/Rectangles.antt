@@ -1,5 +1,6 @@
 -- Rectangles of cells of one tone. The run of a tone at a row of a column is the number of consecutive rows that have the tone,
--- counted upwards from this row. No run begins at a row if the row below it has the tone too.
+-- counted upwards from this row. No run begins at a row if the row below it has the tone too. A rectangle ends before column c
+-- if its last column is c - 1.
 use Rattle.std.specs.Prelude.{◌≡◌, ◌≢◌, ℕ, zero, suc, false, ◌+◌, ◌-◌, ◌<◌, ◌≤◌, ◌⊎◌, ◌↔◌, Bool, IsTrue, if◌then◌else◌, All, Any, List, [], Some, length, take, drop, slice_get, slice_index_or}
 use Rattle.std.specs.List.{prefix_len}
 use Rattle.frame_picture.specs.Tones.{is_tone, not_held}

@@ -19,8 +19,8 @@ pub struct Rectangle {
     pub rows: usize,
 }
 
-/// Returns the rectangle of a tone that begins at a row and ends before column `end`, if there is one. All its columns have the
-/// same run of rows there, and the columns beside it do not. Only the first `rows` rows of a column are shown.
+/// Returns the rectangle of a tone that begins at a row and has `end - 1` as its last column, if there is one. All its columns
+/// have the same run of rows there, and the columns beside it do not. Only the first `rows` rows of a column are shown.
 pub fn rectangle_at(
     columns: &[[Tone; MOST_ROWS]],
     tone: Tone,
