@@ -15,7 +15,7 @@ use Rattle.frame_picture.specs.Rectangles.{goes_on, run_at, run_in, IsRectangle,
 
 -- ---- the runs of one column
 
--- if a run begins at a row, it has all rows from this row up, as far as they have the tone
+-- if a run begins at a row, its length is the number of consecutive rows that have the tone, counted upwards from this row
 run_begins : (tone : Tone) (cells : List Tone) (row : ℕ) → 0 < run_at tone cells row
     → run_at tone cells row ≡ prefix_len (is_tone tone) (drop row cells)
 run_begins tone cells row some = go (cases_Bool (goes_on tone cells row))
@@ -156,7 +156,7 @@ module _ (columns : List (List Tone)) (tone : Tone) (rows : ℕ) (rectangles : L
   n : ℕ
   n = length columns
 
-  -- the run that begins at a row in the column is the run in the column's cells
+  -- the run that begins at a row of this column is the run that begins there in the column's first `rows` cells
   runs_here : (first : ℕ) → run_in columns tone rows first column ≡ run_at tone (take rows cells) first
   runs_here first = ap (λ xs. run_at tone (take rows xs) first) (get_or_from_slice_get columns column cells [] there)
 

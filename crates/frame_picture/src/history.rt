@@ -12,7 +12,7 @@ use std::alloc::{AllocError, Global};
 /// RAM.
 pub const MOST_COLUMNS: u32 = 4096;
 
-/// A superblock after some line.
+/// The state of a superblock after some line of a trace.
 #[derive(Debug, Drop)]
 pub struct Sheet {
     /// Its owner, if it has one.
@@ -35,7 +35,7 @@ pub struct Figures {
     pub free: [u32; ORDERS],
 }
 
-/// The machine after some line.
+/// The state of a machine after some line of a trace.
 #[derive(Debug, Drop)]
 pub struct Column {
     /// The number of lines that the machine had run.
