@@ -3,8 +3,8 @@ use Rattle.frame_picture.specs.Kinds.{rank_of}
 use Rattle.frame_picture.specs.Owned.{listed_cells}
 use Rattle.frame_picture.proofs.drawing.count_listed.Given as goal
 
--- `counts` has the numbers of tenant t's cells in the listed sheets so far, by kind. `shown` is their total. Both hold only if
--- the total is below 2 ^ 64.
+-- Let tenant t have fewer than 2 ^ 64 cells from `first` to `end` - 1 in the listed sheets so far. `counts` has the numbers of
+-- these cells by kind, and `shown` is the number of all of them.
 abbrev pub invariant-loop-j : goal.invariant-loop-j
 invariant-loop-j l = record {
   long : length l.counts ≡ 6;

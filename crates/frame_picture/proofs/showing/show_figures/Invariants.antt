@@ -6,7 +6,7 @@ use Rattle.frame_picture.specs.Columns.{AreFigures}
 use Rattle.frame_picture.specs.declared.history.Figures.{Figures}
 use Rattle.frame_picture.proofs.showing.show_figures.Given as goal
 
--- the figures of the tenants so far are stored, and `t` is the number of the next tenant, at most 2 ^ 32 - 1
+-- the figures of the tenants so far are stored, and `t` is the number of the next tenant, capped at 2 ^ 32 - 1
 abbrev pub invariant-loop-own : goal.invariant-loop-own
 invariant-loop-own l = record {
   tenant : l.t ≡ min l.own-index (2 ^ 32 - 1);

@@ -6,7 +6,7 @@ use Rattle.frame_picture.specs.Columns.{AreCells}
 use Rattle.frame_picture.specs.declared.history.Sheet.{Sheet}
 use Rattle.frame_picture.proofs.showing.show_sheets.Given as goal
 
--- the sheets so far have the owners of their superblocks and the kinds of the frames
+-- each sheet so far has the owner of its superblock, and its cells have the kinds of this superblock's frames
 abbrev pub invariant-loop-superblock : goal.invariant-loop-superblock
 invariant-loop-superblock l = record {
   owners : (s : ℕ) (sheet : Sheet) → s < l.superblock → slice_get l.sheets s ≡ Some sheet → sheet.owner ≡ owner_at l.kernel.space.owners s;
