@@ -26,7 +26,7 @@ class_of FrameKind.Empty = codes "empty"
 abbrev pub drawn_rows : Grid → ℕ
 drawn_rows grid = min MOST_ROWS grid.rows
 
--- the text is a path of rectangles that contain exactly the cells of this tone
+-- the text is a path of rectangles that together contain exactly the cells of this tone
 pub record IsTonePath (columns : List (List Tone)) (rows : ℕ) (tone : Tone) (shade text : List ℕ) : Type 0 where
   pub rectangles : List Rectangle
   pub cells : CoverTone columns tone rows rectangles

@@ -43,7 +43,8 @@ abbrev pub name_text : Option (List ℕ) → List ℕ
 name_text None = codes "a trace"
 name_text (Some name) = flat_map escaped name
 
--- the title of a picture, and the line below it with the numbers of superblocks, of frames and of lines per column
+-- the title of a picture, and the line below it: the number of superblocks, the frames of each superblock, and the lines of each
+-- column
 unfoldable pub title_text : ℕ → Option (List ℕ) → ℕ → ℕ → ℕ → List ℕ
 title_text lines name superblocks frames width = concat (codes "<text class=\"head\" x=\"" ∷ decimal LEFT
     ∷ codes "\" y=\"30\">Frames over " ∷ decimal lines
