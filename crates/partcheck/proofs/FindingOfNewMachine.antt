@@ -24,7 +24,8 @@ pub finds : KeptIsAllowed → BrokenIsNotAllowed → (config : Config) (finding 
     → finding ≡ finding_of (opening_of config) asked told → IsFindingOf config finding asked told
 finds kept broken config finding asked told is = (is, sound kept broken config finding asked told is)
 
--- if the trace and the replies are known, they have each property of all texts that begin with the bytes that were read
+-- Let a property be true of any trace and replies that begin with the bytes that were read. If the trace and the replies are
+-- known, the property is true of them.
 pub known_texts : {trace trace' replies replies' : Source} {asked told : List ℕ} (IsSo : List ℕ → List ℕ → Type 0) → HasGiven trace trace' asked
     → HasGiven replies replies' told → WhateverFollows trace' replies' asked told IsSo → (whole answers : List ℕ) → trace.left ≡ Some whole
     → replies.left ≡ Some answers → IsSo whole answers

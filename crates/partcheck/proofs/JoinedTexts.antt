@@ -19,7 +19,7 @@ pub then_text : {a b : Option (List ℕ)} {front : List ℕ} (c : Option (List �
     → HasText a c (front ++ text)
 then_text {a} {b} {front} c text first last = record { appended = Appends-trans a b c front text first.appended last }
 
--- let `whole` be `front ++ text`: if `front` was appended and the last write of `text` succeeds, `whole` was appended
+-- let `whole` be `front ++ text`: if `front` was appended and then the write of `text` succeeds, `whole` was appended
 pub last_text : {E : Type 0} {a b : Option (List ℕ)} {front : List ℕ} (c : Option (List ℕ)) (r : Result (Unit {0}) E) (text whole : List ℕ)
     → HasText a b front → OnOk r (Appends b c text) → front ++ text ≡ whole → OnOk r (Appends a c whole)
 last_text {E} {a} {b} {front} c (Ok x) text whole first last is = subst (Appends a c) is (Appends-trans a b c front text first.appended last)
@@ -31,7 +31,7 @@ pub only_text : {E : Type 0} (a b : Option (List ℕ)) (r : Result (Unit {0}) E)
 only_text a b (Ok x) text whole appended is = subst (Appends a b) is appended
 only_text a b (Err e) text whole appended is = tt
 
--- if for each pair of texts the success of a call implies a fact, its success implies the fact for all pairs
+-- if the success of a call implies a fact for each single pair of texts that was read, it implies the fact for all these pairs
 pub each_read : {E : Type 0} (r : Result (Unit {0}) E) (WasRead Is : List ℕ → List ℕ → Type 0)
     → ((asked told : List ℕ) → WasRead asked told → OnOk r (Is asked told)) → OnOk r ((asked told : List ℕ) → WasRead asked told → Is asked told)
 each_read (Ok x) WasRead Is each = each

@@ -25,7 +25,7 @@ abbrev pub opening_of : Config → Known
 opening_of config = opening MOST_CACHES config.order config.superblocks config.tenants
 
 -- If the finding is `Kept`, the replies are the text of allowed replies to the trace's events. If it is `Broken`, the replies
--- before the breach are allowed, and no reply that begins at the breach is allowed.
+-- before the breach are allowed, and the text at the breach does not begin with an allowed reply.
 abbrev pub IsSoundFinding : Config → Finding → (trace replies : List ℕ) → Type 0
 IsSoundFinding config (Finding.Kept lines) trace replies =
     IsAllowedText None MOST_CACHES config.order config.superblocks config.tenants (lines_of_trace trace) replies

@@ -20,8 +20,8 @@ file_without settings Unchecked.Replies = string_bytes settings.replies
 file_without settings Unchecked.Trace = unwrap_or (trace_file settings) (codes "standard input")
 file_without settings Unchecked.Memory = unwrap_or (trace_file settings) (codes "standard input")
 
--- The settings are the values of the arguments. `read` returns the text of a size by the argument's name, and `whole` returns the
--- path of a file.
+-- The settings are the values of the arguments. Both functions take the name of an argument: `read` returns the text of a size,
+-- and `whole` returns the path of a file.
 pub record AsksCheck (read whole : Text → Option Text) (settings : Settings) : Type 0 where
   pub sizes : AsksSizes read settings.config
   pub trace : whole (codes "TRACE") ≡ Some (string_bytes settings.trace)

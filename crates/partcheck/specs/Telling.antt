@@ -98,7 +98,7 @@ abbrev pub blocks_text : Option TakenFrame → List ℕ
 blocks_text None = words_of_promise Promise.Blocks
 blocks_text (Some taken) = taken_text taken
 
--- why a promise is broken: for Blocks the live page block in the way, if one was found, or else what the promise requires
+-- why a promise is broken: what the promise requires, or, for Blocks, the live page block in the way if one was found
 abbrev pub reason_text : Promise → Option TakenFrame → List ℕ
 reason_text Promise.Blocks taken = blocks_text taken
 reason_text Promise.Form taken = words_of_promise Promise.Form
@@ -120,7 +120,7 @@ breach_text breach asked told taken = concat (codes "line " ∷ decimal breach.l
     ∷ excerpt_text (codes "nothing") 200 (if_read without_line_feed (take MOST_TEXT_BYTES told)) ∷ codes ": " ∷ name_of_promise breach.promise ∷ codes ": "
     ∷ reason_text breach.promise taken ∷ codes "\n" ∷ [])
 
--- the line of a finding was written; for a breach it shows the line and the reply that `shown` has
+-- the line of a finding was written; for a breach it shows the line of the trace and the reply that `shown` has
 abbrev pub AppendsFinding : Finding → Shown → (tenants : ℕ) → (old new : Option (List ℕ)) → Type 0
 AppendsFinding (Finding.Kept lines) shown tenants old new = Appends old new (kept_text lines tenants)
 AppendsFinding (Finding.Broken breach) shown tenants old new =

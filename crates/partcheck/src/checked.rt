@@ -24,7 +24,8 @@ pub enum Checked {
 const BROKEN: u8 = 4;
 
 /// If no finding was written, prints the reason on standard error, and the name of a file that could not be opened or read.
-/// Returns the exit status: 0 if every reply is allowed, 4 if a reply is not allowed, or else the status of the error.
+/// Returns the exit status: 0 if a finding was written and every reply is allowed, 4 if one was written and a reply is not
+/// allowed, or else the status of the error.
 pub fn tell_checked(rt: &impl Eprint, settings: &Settings, checked: Checked) -> ExitCode
     ensures { exit_status result ≡ status_of_check checked }
 {

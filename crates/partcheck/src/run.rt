@@ -15,7 +15,7 @@ use streams::Feed;
 
 /// Checks the replies to a trace on a machine of these sizes, in which no superblock is granted at first. Returns `Err` if the
 /// trace or the replies cannot be read, or if memory runs out. If a reply is not allowed, `shown` has the line and the reply, as
-/// after [`check`], and a live page block that overlaps the page block of the reply, if there is one.
+/// after [`check`]. It also has a live page block that overlaps the page block of the reply, if there is one.
 pub fn run<T: Feed, R: Feed>(
     alloc: Global,
     config: Config,

@@ -83,7 +83,7 @@ fn write_breach<W: Write>(out: &mut W, breach: &Breach, shown: &Shown) -> io::Re
     out.write_all(b"\n")
 }
 
-/// Writes why a promise is broken: for `Blocks` the page block in the way, if one was found, or else what the promise requires.
+/// Writes why a promise is broken: what the promise requires, or, for `Blocks`, the live page block in the way if one was found.
 fn write_reason<W: Write>(
     out: &mut W,
     promise: Promise,
