@@ -4,8 +4,8 @@ use Rattle.std.specs.Option.{ForSome}
 use Rattle.kernel_core.specs.Content.{opening_content}
 use Rattle.framemap.specs.Drawing.{end_drawn, first_drawn}
 
--- if the requested tenant exists, a picture of this tenant, or of all tenants if none is requested, draws the tenants from
--- `first_drawn` to `end_drawn` - 1
+-- Let there be at most 64 tenants. If no tenant is requested, or if the requested one exists, the picture draws the tenants from
+-- `first_drawn` to `end_drawn` - 1.
 pub drawn_is : (only : Option ℕ) (first end tenants : ℕ) → IfSome only (λ t. (first ≡ t) × (end ≡ min (t + 1) 255))
     → IfNone only ((first ≡ 0) × (end ≡ tenants)) → ForSome only (λ t. t < tenants) → tenants ≤ 64
     → (first ≡ first_drawn only) × (end ≡ end_drawn tenants only)

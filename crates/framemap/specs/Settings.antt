@@ -19,8 +19,8 @@ pub record AreColumns (text : Option Text) (columns : ℕ) : Type 0 where
   pub read : MayWrite text written
   pub within : columns ≡ max 1 (min (unwrap_or written DEFAULT_COLUMNS) MOST_COLUMNS)
 
--- The settings are the values of the arguments. `read` returns the text of a number or a flag by the argument's name, and `whole`
--- returns the path of FILE.
+-- The settings are the values of the arguments. Both functions take the name of an argument: `read` returns the text of a number
+-- or a flag, and `whole` returns the path of FILE.
 pub record AsksMap (read whole : Text → Option Text) (settings : Settings) : Type 0 where
   pub machine : AsksMachine read settings.machine
   pub columns : AreColumns (read (codes "columns")) settings.columns

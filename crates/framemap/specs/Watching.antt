@@ -22,7 +22,7 @@ watches = WatchesLine 1
 abbrev pub watches_first : Watched × KernelContent → List ℕ → List ℕ → List ℕ → Watched × KernelContent → Type 0
 watches_first = WatchesLine 0
 
--- The events of all these lines were counted. The lines were counted too, if the history's number of lines is below 2 ^ 32.
+-- The events of all these lines were counted. The lines were counted too, if the history's number of lines stays below 2 ^ 32.
 pub record HasWatched (done : List (List ℕ)) (old new : Watched) : Type 0 where
   pub events : new.events ≡ old.events + length (events_of done)
   pub lines : line_count old.history + length done < 2 ^ 32 → line_count new.history ≡ line_count old.history + length done
