@@ -7,7 +7,7 @@ use std::io::{self, Write};
 #[derive(Debug, Drop)]
 pub struct Digest {
     sum: u64,
-    /// The last bytes, at most seven, which are not yet part of `sum`. The first of them is in the highest bits. `count` is their
+    /// The last bytes, at most seven, which are not yet part of `sum`. The newest of them is in the lowest bits. `count` is their
     /// number.
     tail: u64,
     count: u32,

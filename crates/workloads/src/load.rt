@@ -141,7 +141,7 @@ pub const BYTES: Load = Load {
     ],
 };
 
-/// All commands except `reset`, and odd lines.
+/// Odd lines, and all commands except `reset`.
 pub const MIXED: Load = Load {
     config: SMALL,
     granted: 30,
