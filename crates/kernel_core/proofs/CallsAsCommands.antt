@@ -70,8 +70,8 @@ pub passed : {A E : Type 0} (told : A → Body) (refusal : E → Refusal) (e : E
     → body_of told y ≡ Refused (refusal e)
 passed told refusal e y is = let found = err_from_is_err_and y is in ap (body_of told) found.1 ∙ ap (λ r. Refused r) found.2
 
--- if a command changes no machine that the kernel shows, a call that changes nothing and returns the command's answer runs this
--- command
+-- Let a command change no machine that the kernel shows for tenant t. Then a call that changes nothing runs this command if the
+-- call returns the command's answer.
 pub answered : (k : KernelContent) (t : ℕ) (command : Command) (body : Body)
     → ((m : Machine) → ShowsMachine k t m → command_step cache_limit k.order command m ≡ record { answer = body; machine = m }) → StepsMachine k t command k body
 answered k t command body same = record { does = does_nothing k t (command_step cache_limit k.order command) body same; refused = λ _. refl }

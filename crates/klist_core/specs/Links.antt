@@ -76,12 +76,13 @@ places_of nodes = map place_in nodes
 abbrev pub shown : List Head → List Node → Placed
 shown heads nodes = record { heads = length heads; places = places_of nodes }
 
--- the list and rank of a node with this place: a loose list ranks its nodes by the time of their insertion, any other list by key
+-- the list and rank of a node with this place: a loose list ranks its nodes by a time, any other list by key
 abbrev pub ranked : ℕ → Option (ℕ × ℕ) → Option (ℕ × ℕ)
 ranked time None = None
 ranked time (Some p) = Some (p.0, if p.0 % 3 == 0 then time else p.1)
 
--- the list and rank of node i of a table; `came` gives the time at which each node was inserted
+-- the list and rank of node i of a table; `came` gives the time of each node: when it was inserted, or if it replaced another
+-- node, the time of that node
 abbrev pub ranks : (ℕ → ℕ) → List (Option (ℕ × ℕ)) → ℕ → Option (ℕ × ℕ)
 ranks came places i = ranked (came i) (place_at places i)
 

@@ -5,8 +5,9 @@
 //! next node, and each list to its first and last node (Knuth, The Art of Computer Programming, 2.2.5).
 //!
 //! Every third list, from list 0 on, is loose. In contracts it is a list like any other, in ascending order of keys, but its
-//! nodes are linked in the order in which they were inserted. So an insertion takes constant time with any key, but a search for
-//! the least key visits all nodes of the table.
+//! nodes are linked in the order in which they were inserted, and a node that replaces another one ([`Lists::replace`]) is linked
+//! where that node was. So an insertion takes constant time with any key, but a search for the least key visits all nodes of the
+//! table.
 //!
 //! Only [`Lists::new`] allocates.
 #![tactic(auto)]
@@ -84,7 +85,7 @@ struct Head {
 }
 
 /// The list and the key of a node, and its neighbours in the list: the nodes with the next smaller and the next greater key, or
-/// in a loose list the nodes inserted just before and after it. The key of a node that is in no list is 0 and means nothing.
+/// in a loose list the nodes linked just before and after it. The key of a node that is in no list is 0 and means nothing.
 #[derive(Clone, Copy, Debug)]
 struct Node {
     list: Link,
@@ -225,8 +226,8 @@ impl Lists {
         self.first_at(head, self.first_of(head))
     }
 
-    /// Returns the least key of the list and its node, which the caller passes as `least`. Returns `None` if `least` is `None`,
-    /// which means that the list is empty.
+    /// Returns the least key of the list and its node, or `None` if the list is empty. The caller has already looked the node up,
+    /// and passes it as `least` (`None` for an empty list).
     #[inline(always)]
     fn first_at(&self, head: u32, least: Option<u32>) -> Option<(u32, u32)>
         requires { IsNearest up (place_at self.now.places) head 0 least }

@@ -1,5 +1,5 @@
--- The promises do not see a new slab. When a cache grows by a slab, what is known of the machine stays true, if the cache is then
--- known as one that may have an empty slab and there is no valid report.
+-- The promises do not see a new slab. What is known of a machine is still true after a cache grows by a slab, once two things are
+-- changed in what is known: the cache is one that may have an empty slab, and there is no longer a valid report.
 use Rattle.std.proofs.Common.{◌≡◌, ℕ, zero, suc, ◌+◌, ◌<◌, Bool, true, false, ◌||◌, eqb, ltb, List, [], ◌∷◌, ◌++◌, map, replicate, Some, refl, sym, ap, ◌∙◌, subst, ◌⊎◌, inl, inr, arith}
 use Rattle.std.specs.Prelude.{if◌then◌else◌, flat_map, Contains}
 use Rattle.std.specs.List.{list_any, AllByRecursion as Each}

@@ -83,7 +83,8 @@ abbrev pub AllShown : Type 0
 AllShown = (limit order : ℕ) (trace : List ℕ) (w : World) →
     shown_lines None limit order (lines_of_trace trace) w ≡ output_of limit order trace w
 
--- if only tenant t is shown, a trace shows exactly the lines of t in its whole output, byte for byte, in any world
+-- If only tenant t is shown, then in any world the shown bytes are exactly the lines of t in the trace's whole output, each
+-- followed by an LF.
 abbrev pub OwnShown : Type 0
 OwnShown = (limit order t : ℕ) (trace : List ℕ) (w : World) → length w.machines ≤ 2 ^ 64 → t < length w.machines →
     shown_lines (Some t) limit order (lines_of_trace trace) w ≡ with_line_feeds (lines_for t (output_of limit order trace w))
