@@ -1,6 +1,6 @@
-/* A correct allocator that chooses other blocks than partmem. It has no buddies. A request gets the frames of the tenant's last
- * freed block of this order if they are still free, and otherwise the first aligned free block in the highest slot that has one.
- * Freeing a block does not change its bytes; a superblock is zeroed when it is given up. There are no caches. */
+/* A correct allocator that chooses other blocks than partmem, with neither buddies nor caches. A request gets the frames of the
+ * tenant's last freed block of this order (frame 0 if it freed none) if they are free, and otherwise the first aligned free block
+ * in the highest slot that has one. Freeing a block does not change its bytes; a superblock is zeroed when it is given up. */
 #include "adapter.h"
 #include <stdlib.h>
 #include <string.h>
@@ -88,8 +88,8 @@ enum reply move(unsigned tenant, uint32_t slot, unsigned *superblock) {
     return DONE;
 }
 
-/* Finds frames for a block of this order. Returns their superblock, and stores the first frame's number in it; returns NULL if
- * there are none. */
+/* Finds frames for a block of this order. Returns their superblock, and sets `*at` to the number of the first frame within it;
+ * returns NULL if there are none. */
 static struct superblock *choose(unsigned tenant, uint32_t order, unsigned *at) {
     struct superblock *of = held(tenant, last[tenant][order] / frames);
     *at = last[tenant][order] % frames;

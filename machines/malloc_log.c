@@ -11,11 +11,12 @@
    name is empty, nothing is logged.
 
    The first line is "# program NAME", with the name by which the program was called. The others are
-   "SECONDS malloc POINTER BYTES" and "SECONDS free POINTER"; a realloc is a free and a malloc. They are written through a shared
-   mapping of the file, so none is lost however the process ends. The file ends in zeroes.
+   "SECONDS malloc POINTER BYTES" and "SECONDS free POINTER", with POINTER in hex digits; a realloc is a free and a malloc. They
+   are written through a shared mapping of the file, so none is lost however the process ends. The file ends in zeroes.
 
-   If MALLOC_LOG_CALLERS is set and not empty, a malloc also has " FILE+OFFSET", the address to which its call returns, in hex
-   digits. The line "# file FILE is PATH" comes before the first line with that file. That needs glibc 2.35.
+   If MALLOC_LOG_CALLERS is set and not empty, a malloc line ends in " FILE+OFFSET", the address to which its call returns: FILE
+   is the number of a loaded file, in decimal, and OFFSET is the offset from where it is loaded, in hex digits. The line
+   "# file FILE is PATH" comes before the first line with that file. That needs glibc 2.35.
 
    If a log cannot be written, the library says so on standard error, and the program runs on without a log. */
 #define _GNU_SOURCE
@@ -154,7 +155,7 @@ static void begin_window(void)
     }
 }
 
-/* Appends a line to the log, unless nothing is logged any more. It is shorter than a window. */
+/* Appends a line, which must be shorter than a window, to the log. Does nothing if logging has stopped. */
 static void put(const char *line, size_t length)
 {
     if (name[0] && (!window || window_used + length > WINDOW_BYTES))
@@ -280,7 +281,7 @@ static int make_path(const char *given)
     return error;
 }
 
-/* Puts the entry into the environment, without putenv: a shell may have its own, which does not do it. */
+/* Puts the entry into the environment. Does not call putenv: a shell may define a putenv of its own, which does not put it there. */
 static void put_entry(void)
 {
     size_t count = 0;

@@ -93,8 +93,8 @@ at_depth ok top j d k q n e a b s l =
 below_top : (top d : ℕ) → d < top → top - d ≡ suc (top - suc d)
 below_top top d h = omega arith
 
--- If `Leads` holds for half x of a block whenever it holds for the block, `Reached` holds after a step from node n to node m + x.
--- Half 0 is the lower half, and half 1 the upper one.
+-- Given that `Leads` passes from a block to its half x, `Reached` passes from node n to node m + x, where m is 2 * n. Half 0 is
+-- the lower half, and half 1 the upper one.
 stepped_down : (top j d n m e x : ℕ) (words : List ℕ) → x < 2 → d + j < top → e ≡ d + 1 → m ≡ n * 2
     → ((ok : ℕ → Bool) (k q : ℕ) → j ≤ k → k < top → Leads ok top j (suc k) q → slice_index words (m - 1) ≡ orders ok k (2 * q) → Leads ok top j k (2 * q + x))
     → Reached top j d n words → Reached top j e (m + x) words

@@ -102,8 +102,8 @@ number_step w event body s s' e limit l g = absurd (cc)
 
 -- The invariant
 
--- if a reply keeps each promise, the invariant holds before it, and shadow memory has exactly the held slots after it, then the
--- invariant holds after the reply
+-- The invariant still holds after a reply if three things are true: it held before the reply, the reply keeps each promise, and
+-- after the reply shadow memory has exactly the held slots.
 pub sound_after : (event : Event) (body : Body) (w : Known) (old new : Seen) → LieInSlots old.has old.left → IsFollowed event body w old new
     → ((u : ℕ) → list_any (λ v. v == u) (left_slots new.left) ≡ has_slot new.has u) → LieInSlots new.has new.left
 sound_after event body w old new sound follows slots =
