@@ -6,7 +6,7 @@ import tempfile
 from typing import NamedTuple, Optional, Union
 
 from .runs import Run, replayed
-from .talk import Failure
+from .talk import BABBLES, Failure
 from .words import ending, visible, words_of
 
 # The exit statuses of partcheck.
@@ -47,7 +47,8 @@ def line_of_reply(run, tenant, number):
 
 
 class Judge:
-    """Tests runs. If the program fails in a run, the failure is the finding, and the promises are not tested."""
+    """Tests runs. If the program fails in a run, the failure is the finding, and the promises are not tested. The exception is a
+    program that prints too much: a promise that it breaks before is the finding."""
 
     def __init__(self, options, programs):
         self.programs, self.exact = programs, options.exact
@@ -56,8 +57,18 @@ class Judge:
     def judged(self, run):
         """Returns the run with what was found in it: a failure, a broken promise, or with --exact a difference from partmem.
         Returns None if nothing is found."""
-        finding = run.failure or self.broken_promise(run) or (self.compared_with_partmem(run) if self.exact else None)
+        finding = self.broken_before(run) or run.failure or self.broken_promise(run)
+        finding = finding or (self.compared_with_partmem(run) if self.exact else None)
         return finding and Case(run, finding)
+
+    def broken_before(self, run):
+        """If the program prints too much, returns a promise other than Form that it breaks before, if there is one. For example,
+        each report has a row too many, which is read as part of the next reply. Only a long load then ends with too many bytes,
+        but few lines show the broken promise. A program that prints junk breaks Form, and the failure says more about that."""
+        if run.failure is None or run.failure.kind != BABBLES:
+            return None
+        breach = self.broken_promise(run)
+        return breach if breach and breach.kind != 'Form' else None
 
     def run_tool(self, program, statuses, sizes, *files, **given):
         """Runs partcheck or partmem, which has to end with one of these statuses."""

@@ -19,6 +19,8 @@ SECONDS_OF_ERRORS = 0.2
 # The most bytes that answer no line, at the end of a run; and the most bytes that may wait to be taken before. The replies to
 # lines that are sent at once are much shorter.
 MOST_UNASKED, MOST_WAITING = 1 << 16, 1 << 20
+# The kind of the failure of a program that prints more than that.
+BABBLES = 'babbles'
 # The bytes of standard error that are kept: the first, with the words of a sanitizer or of a panic, and the last.
 FIRST_ERRORS, LAST_ERRORS = 1 << 14, 1 << 12
 
@@ -199,7 +201,7 @@ class Talk:
         return self.failed('hangs', f'it did not answer line {line} {within}{advice}')
 
     def babble(self):
-        return self.failed('babbles', f'it printed more than {MOST_UNASKED} bytes that answer no line')
+        return self.failed(BABBLES, f'it printed more than {MOST_UNASKED} bytes that answer no line')
 
     def failed(self, kind, words):
         """Ends the run, and returns its failure as an exception."""
