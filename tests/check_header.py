@@ -1,7 +1,7 @@
 """Compares crates/partmem_c/partmem.h, and two functions that memory.c declares, with the exports, structs and constants of the
 crate's source.
 
-It fails if the header has a word that it does not compare, or if it did not read an export or a struct of the source."""
+Fails if the header has text that it does not compare, or if it could not read an export or a struct of the source."""
 import glob
 import re
 import sys
@@ -11,7 +11,7 @@ LIMITS = "FRAME_BYTES LEAST_ORDER MOST_ORDER MOST_SUPERBLOCKS MOST_TENANTS MOST_
 TYPES = {"u32": "uint32_t", "usize": "size_t", "bool": "uint32_t", "*mut u8": "void *"}
 # Maps names of fields in Rust to other names in C.
 FIELDS = {"usage": "use"}
-# A partmem_tenant of the header is these two parameters in the source.
+# A parameter of type partmem_tenant in the header is these two parameters in the source.
 TENANT = [("machine", "partmem_machine *"), ("tenant", "uint32_t")]
 IN_C = ["partmem_" + name for name in "strerror version boot boot_in end superblock_address find_place".split()]
 # Exports that return a number instead of a status.
@@ -39,14 +39,14 @@ def fail(text):
 
 
 def declared(text):
-    """Returns the name and the type of what C declares."""
+    """Returns the name and the type in a C declaration."""
     found = DECLARED.fullmatch(" ".join(text.split()))
     return (found[2], found[1] + (found[3] or "")) if found else fail(f"not read: {text!r}")
 
 
 def parts_of_header():
-    """Returns the macros, enums, structs and functions of the header. Fails if it has anything else but preprocessor lines and
-    inline functions."""
+    """Returns the macros, enums, structs and functions of the header. Fails if it has anything else, apart from preprocessor
+    lines and inline functions."""
     macros = re.findall(r"^#define PARTMEM_(\w+) (\w+?)u\b", header, re.M)
     text = " ".join(line for line in header.replace("\\\n", " ").splitlines() if not line.startswith("#"))
     text = INLINE.sub(" ", " ".join(text.split()))
@@ -60,7 +60,8 @@ def constants(text):
     return re.findall(r"PARTMEM_(\w+) = (\w+)", text)
 
 
-# Maps names of structs in Rust to names in the header. It is filled from the exports, whose parameters are the same in both.
+# Maps names of structs in Rust to names in the header. exports_of_source adds the structs of parameters, as a parameter has the
+# same position in both. structs_of_source adds those of table rows.
 names = {"MachineStorage": "partmem_machine"}
 
 
@@ -88,7 +89,7 @@ def exports_of_header(functions):
 
 
 def exports_of_source(in_header):
-    """Yields the exports of the source, with types of C. A slice becomes a pointer to bytes or text, and a length."""
+    """Yields the exports of the source, with C types. A slice becomes a pointer to bytes or text, followed by a length."""
     exports = re.findall(r'#\[unsafe\(no_mangle\)\]\s*pub extern "C" fn (\w+)\((.*?)\)\s*->\s*u32', source, re.S)
     marks = len(re.findall(r"no_mangle|export_name", source))
     if not marks == source.count("extern") == len(exports):
@@ -132,7 +133,7 @@ def structs_of_source(in_header):
         read_of[name] = [(FIELDS.get(field, field), kind) for field, kind in pairs]
     if [read_of.pop("MachineStorage"), read_of.pop("Slot")] != [[("is_booted", "bool"), ("slot", "Slot")], [("at", "*mut u8")]]:
         fail("MachineStorage or Slot has other fields than this test expects")
-    # No parameter is a struct of a table's rows. Its name in C comes from the field that is an array of rows.
+    # The struct of a table's row is not the type of a parameter. Its C name is the type of the elements of the table's array.
     for name, fields in read_of.items():
         for field, kind in fields:
             row = re.fullmatch(r"\[([A-Z]\w+); \w+\]", kind)
@@ -193,7 +194,8 @@ def compare(what, in_header, in_source):
 macros, enums, structs, functions = parts_of_header()
 numbers = macros + [pair for text, _ in enums for pair in constants(text)]
 numbers = by_name("number", [(name, int(number, 0)) for name, number in numbers])
-# Constants that only C has: the version, the place of no byte, the width of the two enums, and statuses of functions in C.
+# Constants that only C has: the version, the number that is no place, two that make the enums 32 bits wide, and the statuses that
+# only functions in C return.
 OF_C = {"VERSION": 20000, "NO_PLACE": 2 ** 32 - 1, "STATUS_BITS": 2 ** 31 - 1, "USE_BITS": 2 ** 31 - 1, "BAD_MEMORY": 35, "NOT_HELD": 38}
 for name, number in OF_C.items():
     if numbers.pop(name, None) != number:

@@ -17,7 +17,7 @@ def found():
 
 
 class Browser:
-    """One page. Its errors are in `faults`, and its requests in `requests`."""
+    """A browser with one page. `faults` has the page's errors and console messages, and `requests` the requested addresses."""
 
     def __init__(self, folder):
         read, self.write_end = os.pipe()

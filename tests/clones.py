@@ -7,7 +7,8 @@ TOP = os.path.dirname(os.path.dirname(os.path.abspath(__file__)))
 PROGRAMS = ["partmem", "framemap", "partcheck"]
 ARCHIVES = [f"out/lib/libpartmem{kind}.a" for kind in ("", "_kernel", "_linux", "_watched")]
 BUILT = [*(f"crates/{name}/out/{name}" for name in PROGRAMS), *ARCHIVES]
-# Stands in for the command `rt` if the programs are built: it uses them, and proves and builds nothing again.
+# Stands in for the command `rt` if the programs are built: `run` runs the built program, `lib` and `all` do nothing, and the other
+# commands go to the real `rt`.
 RT = r"""#!/bin/sh
 case $1 in
     run) shift; [ "${1-}" != --jobs ] || shift 2; [ "${1-}" != -- ] || shift; exec "out/$(basename "$PWD")" "$@" ;;
@@ -39,7 +40,7 @@ def changed_files(folder):
 
 
 def put(path, folder):
-    """Copies a file of the repository into the folder. If it was removed here, it is removed there too."""
+    """Copies a file of the repository into the folder, or removes it there if the repository no longer has it."""
     to = os.path.join(folder, path)
     os.makedirs(os.path.dirname(to), exist_ok=True)
     if os.path.exists(os.path.join(TOP, path)):
@@ -66,7 +67,7 @@ def write_script(path, text):
 
 def with_stand_ins(work, folder):
     """Replaces `rt`, tools/unproved and tools/library by stand-ins that use what is built in the folder. Returns the environment
-    in which `rt` is replaced."""
+    whose PATH finds the stand-in for `rt` first."""
     write_script(os.path.join(folder, "tools/unproved"), UNPROVED)
     write_script(os.path.join(folder, "tools/library"), LIBRARY)
     subprocess.run(["git", "-C", folder, "add", "tools"], check=True)

@@ -7,9 +7,9 @@ FEW, MANY = 14, 420
 class Fault(NamedTuple):
     kind: str
     name: str
-    promises: str                                               # one of these finds it; `Failed`: the program fails
-    changes: list                                               # texts that occur once, each with its replacement
-    most: int = FEW                                             # most lines that the shortened load may have
+    promises: str                                               # one of these is broken; `Failed`: the program fails
+    changes: list                                               # texts that occur just once, and their replacements
+    most: int = FEW                                             # the most lines that the shortened load may have
 
 
 LISTS = [

@@ -1,4 +1,4 @@
-"""Tests conformance/check with changed replies and traces: it has to judge them or say what is wrong, and may never crash."""
+"""Tests conformance/check with changed replies and traces: it has to judge them or report what is wrong, and may not crash."""
 import os
 import random
 import resource
@@ -53,7 +53,7 @@ def shown(case, name):
 
 
 def fuzz_replies(work, options, rng, count):
-    """Tests programs that give changed replies. Returns in how many of them something is found."""
+    """Tests programs that print changed replies. Returns for how many of them a fault is found."""
     told = subprocess.run([options.partmem, *(f'--{name}={size}' for name, size in zip(SIZES._fields, SIZES))],
                           input='\n'.join(TRACE).encode(), capture_output=True).stdout
     name, found = os.path.join(work, 'turned replies'), 0
@@ -90,7 +90,7 @@ def fuzz_traces(work, options, rng, count):
 
 
 def fuzz(work, options, count):
-    """Tests this number of changed inputs. Returns how many of them were found wrong."""
+    """Tests this number of changed inputs. Returns for how many of them a fault was found or the trace could not be read."""
     rng = random.Random(5)
     found = fuzz_replies(work, options, rng, count // 2)
     wrong = fuzz_traces(work, options, rng, count // 2)

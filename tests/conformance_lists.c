@@ -1,12 +1,12 @@
-/* A buddy allocator like Linux's, behind conformance/adapter.h. tests/conformance makes wrong copies of it. A tenant has a
- * list of free blocks for each order, last in first out, and blocks are joined when they are freed. There are no caches. */
+/* A buddy allocator like Linux's, behind conformance/adapter.h. tests/conformance makes wrong copies of it. Each tenant has a
+ * list of free blocks for each order, last in first out. A freed block is joined with its free buddy. It has no caches. */
 #include "adapter.h"
 #include <stdlib.h>
 #include <string.h>
 
 enum kind { INSIDE, FREE, TAKEN };
 
-/* A frame of a tenant. The first frame of a block has the block's kind, order and neighbours in its list. */
+/* A frame of a tenant. The first frame of a block has the block's kind and order, and a free block's neighbours in its list. */
 struct page {
     uint8_t kind, order;
     uint32_t next, before;
@@ -171,7 +171,7 @@ enum reply release(unsigned tenant, uint32_t frame, unsigned *order) {
     return DONE;
 }
 
-/* Returns the address of this place, or NULL if no block has all bytes of the range. */
+/* Returns the address of this place, or NULL if no taken block has all bytes of the range. */
 static uint8_t *reach(struct tenant *of, uint32_t place, uint32_t length) {
     uint32_t at = place / FRAME_BYTES, slot = at / frames;
     if (!holds(of, slot))

@@ -1,6 +1,6 @@
 /* A buddy allocator with caches, behind conformance/adapter.h. tests/conformance makes wrong copies of it. Each slot has a tree,
- * whose nodes have the greatest free order in their blocks. A block is taken in the first slot that has one. A cache keeps its
- * empty slabs until frames are short. The records of slabs are outside the frames. */
+ * whose node for a block has the greatest order of a free block within it. A block comes from the first slot that has a free one
+ * large enough. A cache keeps its empty slabs until frames are short. The records of slabs are outside the frames. */
 #include "adapter.h"
 #include <stdlib.h>
 #include <string.h>
