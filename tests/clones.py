@@ -7,8 +7,8 @@ TOP = os.path.dirname(os.path.dirname(os.path.abspath(__file__)))
 PROGRAMS = ["partmem", "framemap", "partcheck"]
 ARCHIVES = [f"out/lib/libpartmem{kind}.a" for kind in ("", "_kernel", "_linux", "_watched")]
 BUILT = [*(f"crates/{name}/out/{name}" for name in PROGRAMS), *ARCHIVES]
-# Stands in for the command `rt` if the programs are built: `run` runs the built program, `lib` and `all` do nothing, and the other
-# commands go to the real `rt`.
+# Stands in for the command `rt` if the programs are built: `run` runs the built program, `lib` and `all` do nothing, and
+# the other commands go to the real `rt`.
 RT = r"""#!/bin/sh
 case $1 in
     run) shift; [ "${1-}" != --jobs ] || shift 2; [ "${1-}" != -- ] || shift; exec "out/$(basename "$PWD")" "$@" ;;

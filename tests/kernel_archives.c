@@ -5,9 +5,9 @@
  * unaligned: the stack of each call is aligned only to 8 bytes, not to 16, as it may be in a kernel.
  *
  * interrupted: after each instruction of a call, the 128 bytes below the stack pointer and the vector registers are overwritten.
- * An interrupt on the same stack does this in a kernel that saves only the general registers. The processor traps after each
- * instruction while its trap flag is set, and the handler of that signal has a stack of its own. This program itself is compiled
- * without red zone and vector registers. It prints the number of interrupts to standard error.
+ * An interrupt on the same stack does this in a kernel that saves only the general registers. While the processor's trap flag
+ * is set, each instruction raises SIGTRAP, whose handler has a stack of its own. This program itself is compiled without red zone
+ * and vector registers. It prints the number of interrupts to standard error.
  */
 #define _GNU_SOURCE /* registers by name */
 #include <signal.h>

@@ -1,4 +1,5 @@
-// Uses all of partmem.hpp, with exceptions and without. With the argument "abort" it makes a container too large for its heap.
+// Uses all of partmem.hpp. It compiles with and without exceptions. With the argument "abort", the program makes a container too
+// large for its heap.
 #include "partmem.hpp"
 
 #include <array>
@@ -18,7 +19,7 @@ using partmem::status;
 namespace {
 
 constexpr partmem_config sizes = {4, 32, 3};
-int living; // objects of counted
+int living; // the number of live objects of type counted
 
 struct counted {
     explicit counted(int number) : value(number)
@@ -146,7 +147,8 @@ void check_objects()
     MUST(none.open(tenant) == status::no_cache_slot && none.number() == 31);
 }
 
-/* Fills a map until nothing is left, and returns how many keys it had. */
+/* Fills a map until the heap has no memory left, and returns the number of its keys. Without exceptions, allocates pieces of 100
+ * bytes instead, and returns their number. */
 std::size_t fill(partmem::heap &heap)
 {
     std::size_t keys = 0;
@@ -176,7 +178,7 @@ void check_heap()
     partmem::heap heap(tenant), second(other), none;
     std::size_t keys = fill(heap);
     MUST(keys > 2000 && live_frames(tenant) == 0);
-    void *of_another = second.try_allocate(3000); // changes nothing for the first
+    void *of_another = second.try_allocate(3000); // changes nothing for the first heap
     MUST(of_another && fill(heap) == keys && heap.free(of_another) == status::not_held);
     {
         std::pmr::unordered_map<int, std::pmr::string> map(&heap);

@@ -1,5 +1,5 @@
 /* Tests the edge cases of the heap: what an initialisation refuses, requests for no bytes and for too many, alignments, runs, and
- * direct calls that take caches from the heap. */
+ * direct calls that replace caches of the heap. */
 #include "partmem_heap.h"
 #include "trial.h"
 
@@ -107,7 +107,7 @@ static void check_alignments(void)
         MUST(!at == !is_good && (!at || (uintptr_t)at % align == 0));
         MUST(partmem_heap_free(&heap, at) == PARTMEM_DONE);
     }
-    /* A piece whose size is a power of two is aligned to its size if there is a class of it, as Linux promises for kmalloc. */
+    /* A piece whose size is a power of two is aligned to its size if a class has this size. Linux promises this of kmalloc. */
     MUST(partmem_reset(first) == PARTMEM_DONE);
     grant(first, SLOTS);
     MUST(init(first, powers, LEN(powers), 0) == PARTMEM_DONE);
@@ -163,7 +163,7 @@ static void check_runs(void)
     MUST(partmem_heap_free(&heap, block) == PARTMEM_DONE);
 }
 
-/* Destroys the heap's cache of a class by direct calls, makes one of this size and alignment 8 instead. Returns its number. */
+/* Replaces the heap's cache of a class, by direct calls, by a cache of this size and alignment 8. Returns the cache's number. */
 static uint32_t replace_cache(uint32_t class_size, uint32_t size)
 {
     partmem_cache made;
@@ -176,7 +176,7 @@ static uint32_t replace_cache(uint32_t class_size, uint32_t size)
     return made.cache;
 }
 
-/* Checks the heap after direct calls replaced a cache: by one of another size, and by one of its size with less alignment. */
+/* Checks the heap after direct calls replaced a cache: by one of another size, and by one with a lower alignment. */
 static void check_caches(void)
 {
     partmem_lent direct;
@@ -192,13 +192,13 @@ static void check_caches(void)
         pieces[i] = partmem_heap_malloc(&heap, 90);
         MUST(pieces[i] && (uintptr_t)pieces[i] % 32 == 0 && partmem_heap_usable_size(&heap, pieces[i]) == 96);
     }
-    MUST(partmem_destroy_cache(first, cache) == PARTMEM_CACHE_IN_USE); /* by the heap: its first slab is aligned */
+    MUST(partmem_destroy_cache(first, cache) == PARTMEM_CACHE_IN_USE); /* the heap uses it: its first slab is aligned */
     for (size_t i = 0; i < LEN(pieces); i++) MUST(partmem_heap_free(&heap, pieces[i]) == PARTMEM_DONE);
     MUST(partmem_destroy_cache(first, cache) == PARTMEM_DONE);
 }
 
-/* If each class has a cache, direct calls can make 8. If they have made 31, the heap has one cache, which also serves smaller
- * requests, and larger requests get page blocks. */
+/* Checks that direct calls can make 8 caches if the heap has one for each class. If they have made 31, the heap makes just one.
+ * This one also serves smaller requests, and larger requests get page blocks. */
 static void check_no_cache(void)
 {
     partmem_cache made;
@@ -220,8 +220,8 @@ static void check_no_cache(void)
     MUST(partmem_heap_free(&heap, at) == PARTMEM_DONE && partmem_heap_free(&heap, small) == PARTMEM_DONE);
 }
 
-/* A heap that was initialised without a slot allocates after the first grant. A slab of 32 KiB needs the whole superblock; if
- * anything else is there, the request gets a frame. */
+/* Checks that a heap that was initialised without a slot allocates after the first grant. A slab of 32 KiB needs the whole
+ * superblock. If something else is in it, the request gets a page block of one frame. */
 static void check_few_frames(void)
 {
     unsigned char *at, *other;

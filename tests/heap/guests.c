@@ -1,12 +1,12 @@
-/* Runs third-party libraries: an interpreter, a database, parsers and a compressor. Each guest has the heap of its own tenant.
- * The guests of one half make their steps in turn. After each step, a random guest of the other half makes one, and is sometimes
- * reset and starts again. Then each guest of the first half runs alone, on a machine where its superblocks lie elsewhere. Its
- * results, the place of each of its pieces, and its refusals have to be the same.
+/* Runs third-party libraries: an interpreter, a database, parsers and a compressor. A guest is a tenant that uses one of them in
+ * its own heap. The guests of one half make their steps in turn. After each step, a random guest of the other half makes a step,
+ * and is sometimes reset and starts again. Then each guest of the first half runs alone, on a machine where its superblocks lie
+ * elsewhere. Its results, the places of its pieces and its refusals have to be the same as before.
  *
  *     guests STEPS [outsider | addresses]
  *
- * The second word plants a mistake, which the program has to find: steps of the other half allocate in guest 0's heap (outsider),
- * or Lua shows addresses (addresses).
+ * The second word plants a mistake, which the program has to find: after each step of the other half, guest 0's heap gets a
+ * request from outside (outsider), or Lua's guests add an address to their results (addresses).
  */
 #include "guests.h"
 
@@ -138,8 +138,8 @@ static void step(uint32_t number)
     current = &guests[LIBRARIES];
 }
 
-/* Makes a step of a random guest of the other half. Sometimes resets this guest then, which stops its program without cleaning
- * up. Returns the number of resets. */
+/* Makes a step of a random guest of the other half. Sometimes resets this guest afterwards, without letting its program clean up,
+ * and starts it again. Returns the number of resets. */
 static int disturb(void)
 {
     const uint32_t other = STABLE + any(STABLE);

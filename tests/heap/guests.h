@@ -13,8 +13,8 @@ struct guest {
     const struct program *program;
     uint64_t random;
     uint64_t results, places; /* hashes of all results, and of the places of all pieces */
-    unsigned long calls, refused, failed, steps; /* calls of the heap; steps that ran out of memory, and all steps */
-    void *state[STATES];                         /* of the program */
+    unsigned long calls, refused, failed, steps; /* calls of the heap, and refused ones; steps short of memory, and all */
+    void *state[STATES];                         /* for the program */
 };
 
 /* A program, and how many superblocks of 128 KiB its guest gets: so few that it sometimes runs out of memory. */
@@ -22,13 +22,13 @@ struct program {
     const char *name;
     uint32_t slots;
     void (*step)(struct guest *guest);
-    void (*set_up)(void); /* makes the library's own state, in a tenant of its own; or NULL */
+    void (*set_up)(void); /* makes the library's own state, in the heap of one more tenant; or NULL */
     void (*tear_down)(void);
 };
 
 extern const struct program lua, sqlite, expat, zlib, cjson;
 
-/* Whether Lua shows its guests addresses, which depend on other tenants. */
+/* Whether Lua's guests add an address to their results. This is a mistake, since addresses depend on other tenants. */
 extern bool shows_addresses;
 
 /* Returns a number below `below` that depends only on the guest's own history. */

@@ -1,9 +1,9 @@
 /* Makes random calls of heaps, and compares what they return with a model. Four tenants each use a heap and direct calls. A piece
  * that a heap returns has the requested bytes and alignment, shares no byte with anything else that is live, and keeps its bytes.
- * A wrong free is refused, and no command changes anything. A request is refused only if the tenant has no frames for it.
+ * A wrong free is refused and changes nothing. A request is refused only if the tenant has no frames for it.
  *
  * Two more tenants do the same, and are reset at random. Then each of the four runs alone, on another machine and on other
- * superblocks. Its commands have to be the same then and return the same, and so does all that its heap returns.
+ * superblocks. The commands that reach the library, their results, and all that the heap returns have to be the same as before.
  *
  *     random ORDER CALLS SEED
  *
@@ -202,7 +202,7 @@ static void check_wrong(struct user *user, void *at)
     user->wrong_frees++;
 }
 
-/* Tries an address inside a piece, and the beginning of each further superblock of a run. */
+/* Tries wrong frees inside a piece: at a random offset, and at the beginning of each further superblock of a run. */
 static void check_inner(struct user *user, const struct piece *piece)
 {
     const size_t steps[] = {1, 8, 16, PARTMEM_FRAME_BYTES, piece->usable / 2, piece->usable - 1};
@@ -218,7 +218,7 @@ static const struct piece *piece_at(const struct user *user, uint32_t place)
     return NULL;
 }
 
-/* Tries a random address of the tenant, if nothing begins there. */
+/* Tries a wrong free at a random address of the tenant, unless something live begins there. */
 static void check_anywhere(struct user *user)
 {
     partmem_slot slot;
@@ -228,7 +228,7 @@ static void check_anywhere(struct user *user)
     check_wrong(user, (unsigned char *)partmem_superblock_address(&machine, slot.superblock) + place % unit);
 }
 
-/* Tries addresses outside the tenant's superblocks. */
+/* Tries wrong frees of addresses outside the tenant's superblocks. */
 static void check_outside(struct user *user)
 {
     partmem_owner owner;
@@ -316,8 +316,8 @@ static uint32_t direct_caches(const struct user *user)
     return count;
 }
 
-/* Returns how many caches the tenant makes by direct calls. A heap always leaves 8 for them. The last of the four tenants makes
- * 29, so that the heap has none for some classes. */
+/* Returns how many caches the tenant may have from direct calls. A heap always leaves 8 for them. The last of the four tenants
+ * may have 29, so that its heap has no cache for some classes. */
 static uint32_t most_direct(const struct user *user) { return user->tenant.number == STABLE - 1 ? 29 : 8; }
 
 static void make_cache(struct user *user)
@@ -370,7 +370,7 @@ static bool is_class(const struct user *user, size_t bytes)
     return false;
 }
 
-/* Frees a page block or gives back an object. If no class has the object's size, the heap has to refuse to free it before. */
+/* Frees a page block or gives back an object. First checks that the heap does not free an object whose size no class has. */
 static void release_direct(struct user *user, struct piece *piece)
 {
     MUST(is_kept(piece, piece->bytes));
@@ -382,7 +382,7 @@ static void release_direct(struct user *user, struct piece *piece)
 
 /* ---- Worlds ------------------------------------------------------------------------------------------------------------- */
 
-/* Returns a random piece: mostly one that is not live while the tenant is filling, and else mostly a live one. */
+/* Returns a random piece. While the tenant is filling, it is mostly one that is not live; otherwise it is mostly a live one. */
 static struct piece *any_piece(struct user *user)
 {
     struct piece *piece = NULL;

@@ -15,7 +15,7 @@ static uint32_t kept[MOST_KEPT], kept_count; /* places of blocks and objects, ke
 static FILE *trace, *replies;
 static unsigned done, refused, in_place;
 
-/* The tenant of this call: its number, and a cache and a place that it may have. */
+/* The number of the tenant that makes this call, and a cache and a place that the tenant may have. */
 static uint32_t t, cache, place;
 static partmem_tenant me;
 
@@ -73,7 +73,7 @@ static uint32_t order_of(uint32_t bytes)
 
 /* ---- loads and stores in place ---- */
 
-/* Writes the first bytes that are lent as replies to reads, in pieces that one line can read. */
+/* Writes lines that read the first bytes of what was lent, with their replies. Each line reads at most PARTMEM_MOST_BYTES. */
 static void loaded(const partmem_lent *lent)
 {
     uint32_t most = lent->bytes < MOST_STORED ? lent->bytes : MOST_STORED, piece;
@@ -101,7 +101,7 @@ static void load(void)
     }
 }
 
-/* Stores bytes in place. If they are more than one line can write, they become several lines. */
+/* Stores bytes in place, and writes the lines that store them, with the replies. A line stores at most PARTMEM_MOST_BYTES. */
 static void store(void)
 {
     partmem_lent lent;
@@ -260,7 +260,7 @@ static void report(void)
     }
 }
 
-/* Writes the table of owners, from the owner of each superblock. */
+/* Writes the line `admin pool`, and its reply from what partmem_find_superblock returns for each superblock. */
 static void pool(void)
 {
     partmem_owner owners[PARTMEM_MOST_SUPERBLOCKS];

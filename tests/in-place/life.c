@@ -38,7 +38,7 @@ static bool is_filled(const struct range *range, uint32_t step)
     return true;
 }
 
-/* Checks that an object is lent as itself, and not as another object or as a page block. */
+/* Returns whether an object is lent as itself, and not as another object or as a page block. */
 static bool is_lent_as_object(partmem_tenant me, const struct range *range)
 {
     partmem_lent lent;
@@ -48,7 +48,7 @@ static bool is_lent_as_object(partmem_tenant me, const struct range *range)
            partmem_lend_block(me, place, &lent) == PARTMEM_OUT_OF_REACH && !lent.at;
 }
 
-/* Checks that a page block is lent whole from anywhere in it, and not as an object. */
+/* Returns whether a page block is lent whole for any place in it, and not as an object. */
 static bool is_lent_as_block(partmem_tenant me, const struct range *range)
 {
     partmem_lent lent;
@@ -59,7 +59,7 @@ static bool is_lent_as_block(partmem_tenant me, const struct range *range)
            found.place == lent.place && found.bytes == lent.bytes && !partmem_object_at(me, 0, lent.place);
 }
 
-/* Checks that the object or page block is found from a byte of it. */
+/* Returns whether partmem_find_object finds the object or page block at this place in it. */
 static bool is_found(partmem_tenant me, const struct range *range, uint32_t place)
 {
     partmem_object found;
@@ -176,7 +176,7 @@ static void read_and_write(uint32_t t, const struct range *range)
     MUST(partmem_read(me, range->lent.place + 5, bytes, 1) == PARTMEM_DONE && bytes[0] == at[5]);
 }
 
-/* Frees the empty slabs, and checks that a report counts the live objects right. */
+/* Reaps the empty slabs, and checks that a report has the right number of live objects. */
 static void reap_and_report(uint32_t t)
 {
     partmem_figures figures;

@@ -1,7 +1,7 @@
 /* Checks the memory of a machine that partmem_boot_in boots. For a grid of sizes, boot may write at most PARTMEM_TABLE_BYTES of
- * the tables and nothing of the RAM, and superblock m has to lie at ram + m * unit. For each order, in memory full of zeroes and
- * of other bytes, blocks and objects have to lie in their superblocks, an address has to have its place, and superblocks that
- * were never granted may not change. */
+ * the tables and nothing of the RAM, and superblock m has to lie at ram + m * unit. Then the test runs for each order, in memory
+ * full of zeroes and in memory full of another byte, with the same results. Blocks and objects have to lie in their superblocks,
+ * partmem_find_place has to return their places, and superblocks that were never granted may not change. */
 #include <sys/mman.h>
 
 #include "trial.h"
@@ -13,7 +13,7 @@ static const partmem_tenant me = {&machine, 1}, another = {&machine, 0};
 static partmem_config sizes;
 static uint8_t *ram, *tables; /* of the machine; GUARD bytes follow the tables */
 static size_t unit, table_bytes;
-static uint64_t seen; /* a hash of all that was lent, with its bytes */
+static uint64_t seen; /* a hash of the places and the bytes of all that was lent */
 
 static bool are_all(const uint8_t *from, int byte, size_t bytes)
 {
@@ -66,7 +66,8 @@ static void try_sizes(void)
     printf("%u sizes: the tables are %.4f to %.3f times what boot writes, %.4f in the mean\n", count, least, most, sum / count);
 }
 
-/* Checks that what is lent lies in its superblock, and that its first and last byte have their places, for this tenant alone. */
+/* Checks that what is lent lies in its superblock, and that the places of its first and last byte are found, but not for another
+ * tenant. Adds it to the hash, and overwrites it. */
 static void check(const partmem_lent *lent)
 {
     uint8_t *at = lent->at;
@@ -102,7 +103,7 @@ static void try_blocks(uint32_t order)
     MUST(count == sizes.superblocks / 2 << (sizes.order - order));
 }
 
-/* Takes some objects of a cache, perhaps after a reset. Each begins at a multiple of the alignment. */
+/* Makes a cache, first resetting the tenant if `is_reset`, and takes some objects. Each begins at a multiple of the alignment. */
 static void try_objects(uint32_t size, uint32_t align, bool is_reset)
 {
     partmem_cache cache;
@@ -137,7 +138,7 @@ static void try_addresses(void)
     check(&moved);
 }
 
-/* Returns the hash of what is seen of a machine that was booted in memory full of one byte. */
+/* Boots a machine in memory full of one byte, tries it, and returns the hash of all that it lent. */
 static uint64_t seen_in(uint32_t order, int before)
 {
     static const uint32_t object_sizes[] = {1, 24, 100, 320, 1000, 4096};
@@ -152,7 +153,8 @@ static uint64_t seen_in(uint32_t order, int before)
     return seen;
 }
 
-/* Checks that wrong memory is refused after a wrong configuration, and that a machine of partmem_boot can be beside this one. */
+/* Checks that bad memory is refused, that a boot tests first whether there is a machine, then the configuration, then the memory,
+ * and that partmem_boot can boot a second machine. */
 static void try_boots(void)
 {
     static const partmem_machine zeroes;

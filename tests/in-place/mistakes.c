@@ -1,6 +1,6 @@
-/* Tests mistakes of a caller that do not break memory. Each call has to return the first status that applies, with zeroes as
- * results; a read leaves its buffer unchanged. Then tests valid calls with extreme arguments, lengths that no memory has, and the
- * functions that are written in C. */
+/* Tests mistakes of a caller that do not break memory. Each call has to return the first status that applies, and to set its
+ * results to zeroes. Only a read leaves its buffer unchanged. Then tests calls whose lengths are far larger than their buffers,
+ * and the functions that are written in C. */
 #include "trial.h"
 
 static partmem_machine machine, none;
@@ -27,11 +27,11 @@ static bool are_all(const void *result, uint8_t byte, size_t size)
     return size == 0;
 }
 
-/* Checks that a call returned a status, and left this many bytes of this value as its result. */
+/* Returns whether a call returns this status, and leaves a result whose bytes all have this value. */
 #define LEAVES(call, status, result, byte) \
     (memset(&(result), UNTOUCHED, sizeof(result)), (call) == (status) && are_all(&(result), byte, sizeof(result)))
 
-/* Check that a call returned a status, and that its result is zeroes (ZEROED), or still what it was (KEPT). */
+/* Return whether a call returns this status, and sets its result to zeroes (ZEROED) or leaves it as it was (KEPT). */
 #define ZEROED(call, status, result) LEAVES(call, status, result, 0)
 #define KEPT(call, status, result) LEAVES(call, status, result, UNTOUCHED)
 
@@ -54,7 +54,8 @@ static void check_tenant(partmem_tenant tenant, partmem_status status)
     MUST(ZEROED(partmem_find_place(tenant, bytes, &frames), status, frames));
 }
 
-/* Checks that lengths that no line can have are tested after the machine and before the tenant. */
+/* Checks that a write and a new cache test the machine first, then whether a line could have the length, and then the tenant. A
+ * read tests its length after the tenant. */
 static void check_lengths(void)
 {
     MUST(partmem_write(nowhere, 0, bytes, 0) == PARTMEM_NO_MACHINE && partmem_write(nobody, 0, bytes, 0) == PARTMEM_NOT_AN_EVENT);
@@ -77,7 +78,8 @@ static bool is_kept_around(size_t written)
            are_all(fenced.inside + written, UNTOUCHED, sizeof fenced.inside + sizeof fenced.back - written);
 }
 
-/* Returns whether an event that reads, with this length of its buffer, replies with this kind and writes only what it read. */
+/* Makes a read as an event, and passes this length of its buffer. Returns whether the reply has this kind, and only the bytes
+ * that were read are written. */
 static bool reads(uint32_t place, uint32_t count, size_t buffer_len, uint32_t kind)
 {
     const partmem_request request = {PARTMEM_READ, first.number, place, count};
@@ -87,7 +89,8 @@ static bool reads(uint32_t place, uint32_t count, size_t buffer_len, uint32_t ki
     return status == PARTMEM_DONE && reply.kind == kind && is_kept_around(kind == PARTMEM_BYTES ? count : 0);
 }
 
-/* Checks, with lengths that no memory has, that no call writes more than its declaration says. The block is full of zeroes. */
+/* Checks that no call writes more than its declaration says, even if it is given a far larger length than its buffer has. `place`
+ * is in a page block full of zeroes. */
 static void check_wild_lengths(uint32_t place)
 {
     static const size_t wild[] = {65, 4096, 1 << 20, INT32_MAX, UINT32_MAX, 1 + (size_t)UINT32_MAX, 9 + (size_t)UINT32_MAX,
@@ -129,7 +132,7 @@ static void check_machines(void)
 }
 
 /* Checks which object or page block is found at each byte of three objects, and of a page block of two frames. The objects have
- * 72 bytes and lie side by side at multiples of 32. The middle one is given back before. */
+ * 72 bytes and lie side by side at multiples of 32. The middle one is given back first. */
 static void check_objects(uint32_t pages)
 {
     partmem_lent lives[3];

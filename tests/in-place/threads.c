@@ -1,4 +1,5 @@
-/* One thread loads and stores in place without a lock, while two others make calls under a lock, for its tenant and for others.
+/* One thread loads and stores in place without a lock, in memory of one tenant. At the same time, two other threads make calls
+ * under a lock, for this tenant and for others.
  *
  *     threads CALLS
  */
@@ -15,7 +16,7 @@ static atomic_bool is_over;
 static partmem_lent ranges[RANGES];
 static atomic_ulong rounds, calls;
 
-/* Fills all ranges again and again, and counts the bytes that have changed since. */
+/* Fills all ranges again and again. Each time, adds to `wrong` how many bytes then differ from what was stored. */
 static void *use_in_place(void *wrong)
 {
     for (unsigned seed = 0; !is_over; seed++, rounds++) {

@@ -1,4 +1,4 @@
-/* What the programs of this folder share: checks that end a program, and pseudo-random numbers. */
+/* What the programs of this folder and of tests/heap share: checks that end a program, and pseudo-random numbers. */
 #ifndef TRIAL_H
 #define TRIAL_H
 
@@ -14,17 +14,17 @@
 
 static uint64_t random_state;
 
-/* Returns a number below `below`. */
+/* Returns a pseudo-random number below `below`. */
 static inline uint32_t any(uint32_t below)
 {
     random_state = random_state * 6364136223846793005u + 1442695040888963407u;
     return (uint32_t)(random_state >> 33) % below;
 }
 
-/* Returns true once in `times` calls. */
+/* Returns true in one of `times` calls on average. */
 static inline bool rarely(uint32_t times) { return any(times) == 0; }
 
-/* Boots a machine, on a processor that the library supports. */
+/* Boots a machine. Ends the program if the library does not support the processor. */
 static inline void boot(partmem_machine *machine, uint32_t order, uint32_t superblocks, uint32_t tenants)
 {
     const partmem_config config = {order, superblocks, tenants};

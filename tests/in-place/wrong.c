@@ -8,26 +8,26 @@
 
 enum {
     NO_MISTAKE,
-    NO_WRITE_OUT,      /* an alloc uses the address from an earlier owner, and does not lend */
+    NO_WRITE_OUT,      /* an alloc reuses an earlier address of the superblock, and does not lend */
     OTHER_SUPERBLOCK,  /* an alloc returns an address in the neighbouring superblock */
     STALE_AFTER_MOVE,  /* a lend returns the address that the slot had before a move */
-    LENDS_SLAB,        /* lend_block returns frames of a slab, too */
+    LENDS_SLAB,        /* lend_block also lends bytes of a slab */
     CLEARS_OBJECTS,    /* a take clears the object */
     FREES_FROM_INSIDE, /* a free of any place in the first frame frees the block */
-    TOUCHES_ANOTHER,   /* an alloc changes the bytes of tenant 0's first block, and puts them back */
+    TOUCHES_ANOTHER,   /* an alloc of another tenant changes bytes of tenant 0's first block, and puts them back */
     BEGINS_OFF_PAGE,   /* superblocks begin 16 bytes after pages */
     CLEARS_RAM,        /* boot clears the RAM */
-    FINDS_ANOTHER,     /* find_place finds places in the superblocks of others */
+    FINDS_ANOTHER,     /* find_place succeeds for addresses that the tenant does not hold */
     FINDS_BESIDE,      /* find_object finds the neighbouring object */
     CLEARS_REFUSED     /* a refused read clears as many bytes as its caller names, up to a page */
 };
 
 static uint32_t superblock_bytes;
-static uint8_t *begins[PARTMEM_MOST_SUPERBLOCKS];                                /* of superblocks, as far as lends showed them */
+static uint8_t *begins[PARTMEM_MOST_SUPERBLOCKS];                                /* of superblocks that have had a block */
 static uint8_t *begins_of_slots[PARTMEM_MOST_TENANTS][PARTMEM_MOST_SUPERBLOCKS]; /* of slots, at their first lend */
 static uint8_t *of_tenant_0;                                                     /* its first block */
 
-/* partmem_boot calls it too. */
+/* partmem_boot calls this function too. */
 partmem_status __real_partmem_boot_in(partmem_machine *machine, const partmem_config *config, const partmem_memory *memory);
 partmem_status __wrap_partmem_boot_in(partmem_machine *machine, const partmem_config *config, const partmem_memory *memory)
 {
@@ -35,7 +35,7 @@ partmem_status __wrap_partmem_boot_in(partmem_machine *machine, const partmem_co
     return __real_partmem_boot_in(machine, config, memory);
 }
 
-/* The functions by which the kernel allocates. */
+/* The result of rattle_alloc, by which the library allocates memory. */
 struct allocation {
     bool is_done;
     uint8_t *at;
@@ -83,7 +83,7 @@ static uint32_t superblock_of(partmem_tenant tenant, uint32_t place)
     return slot.superblock;
 }
 
-/* Allocates by an event, and lends only in a superblock from which nothing was lent yet. */
+/* Allocates by an event. Lends the block if it is the first in its superblock. Otherwise computes its address from an old one. */
 static partmem_status alloc_by_event(partmem_tenant tenant, uint32_t order, partmem_lent *block)
 {
     partmem_request request = {PARTMEM_ALLOC, tenant.number, order, 0};
