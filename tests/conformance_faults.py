@@ -16,7 +16,7 @@ LISTS = [
     Fault('merge', 'blocks are never joined', 'Room Blocks Refusals Failed', [
         ('    while (joined < top) {',
          '    while (false) {')]),
-    Fault('merge', 'blocks are joined once', 'Room Blocks Refusals Failed', [
+    Fault('merge', 'a freed block is joined only once', 'Room Blocks Refusals Failed', [
         ('    while (joined < top) {',
          '    for (unsigned once = joined; joined < top && joined == once;) {')]),
     Fault('merge', 'a buddy of another order is joined', 'Blocks Failed', [
@@ -31,22 +31,22 @@ LISTS = [
     Fault('split', 'the upper half is counted from the least order', 'Blocks Room Failed', [
         ('push(of, *frame + (1u << from), from);',
          'push(of, *frame + (1u << order), from);')], 20),
-    Fault('split', 'the last half is lost', 'Room Blocks', [
+    Fault('split', 'the upper half of order 0 is lost', 'Room Blocks', [
         ('        push(of, *frame + (1u << from), from);',
          '        if (from > 0) push(of, *frame + (1u << from), from);')], 24),
-    Fault('split', 'a frame alone is freed as two', 'Gives Refusals', [
+    Fault('split', 'a block of one frame is stored as one of two', 'Gives Refusals', [
         ('of->pages[*frame].order = (uint8_t)order;',
          'of->pages[*frame].order = (uint8_t)(order ? order : 1);')]),
     Fault('bounds', 'a range may end one past the block', 'Refusals', [
         ('length > end)',
          'length > end + 1)')]),
-    Fault('bounds', 'a range may not end at the end', 'Refusals', [
+    Fault('bounds', 'a range may not end where the block ends', 'Refusals', [
         ('length > end)',
          'length >= end)')]),
-    Fault('bounds', 'no bytes are read', 'Refusals', [
+    Fault('bounds', 'a read of no bytes is accepted', 'Refusals', [
         ('length < 1 || ',
          '')]),
-    Fault('bounds', '64 bytes are too many', 'Refusals', [
+    Fault('bounds', 'a read of 64 bytes is refused', 'Refusals', [
         ('length > MOST_BYTES',
          'length >= MOST_BYTES')]),
     Fault('bounds', 'the order is cut to a byte', 'Refusals', [
@@ -60,13 +60,13 @@ LISTS = [
         ('enum reply release(unsigned tenant, uint32_t frame, unsigned *order) {\n',
          'enum reply release(unsigned tenant, uint32_t frame, unsigned *order) {\n'
          '    frame &= 0xfffff;\n')]),
-    Fault('overflow', 'taken frames of a slot in a byte', 'Refusals', [
+    Fault('overflow', 'the taken frames of a slot are counted in a byte', 'Refusals', [
         ('    unsigned *taken; ',
          '    uint8_t *taken; ')], 300),
-    Fault('overflow', 'superblocks of a reset in a byte', 'Owners', [
+    Fault('overflow', 'the superblocks of a reset are counted in a byte', 'Owners', [
         ('            ++*superblocks;',
          '            *superblocks = (uint8_t)(*superblocks + 1);')], 270),
-    Fault('overflow', 'blocks of a tenant in a byte', 'Refusals', [
+    Fault('overflow', 'the blocks of a tenant are counted in a byte', 'Refusals', [
         ('static bool *owned;\n',
          'static bool *owned;\n'
          'static uint8_t live[64];\n'),
@@ -79,7 +79,7 @@ LISTS = [
         ('    *superblocks = 0;\n',
          '    *superblocks = 0;\n'
          '    live[tenant] = 0;\n')], 300),
-    Fault('overflow', 'frames of a tenant in two bytes', 'Refusals', [
+    Fault('overflow', 'the frames of a tenant are counted in two bytes', 'Refusals', [
         ('static bool *owned;\n',
          'static bool *owned;\n'
          'static uint16_t used[64];\n'),
@@ -96,13 +96,13 @@ LISTS = [
     Fault('scrub', 'superblocks are not zeroed', 'Bytes', [
         ('    memset(bytes_of(superblock), 0, size_of_superblock());\n',
          '')]),
-    Fault('scrub', 'half of a superblock is zeroed', 'Bytes', [
+    Fault('scrub', 'only half of a superblock is zeroed', 'Bytes', [
         ('memset(bytes_of(superblock), 0, size_of_superblock());',
          'memset(bytes_of(superblock), 0, size_of_superblock() / 2);')]),
     Fault('scrub', 'the last word of a superblock is not zeroed', 'Bytes', [
         ('memset(bytes_of(superblock), 0, size_of_superblock());',
          'memset(bytes_of(superblock), 0, size_of_superblock() - 8);')]),
-    Fault('move', 'half of the bytes are moved', 'Bytes Alone', [
+    Fault('move', 'only half of the bytes are moved', 'Bytes Alone', [
         ('slot]), size_of_superblock());\n'
          '    give_up',
          'slot]), size_of_superblock() / 2);\n'
@@ -111,18 +111,18 @@ LISTS = [
         ('    give_up(of->superblocks[slot]);\n'
          '    of->',
          '    of->')], 30),
-    Fault('move', 'a slot that was moved is not busy', 'Refusals Busy', [
+    Fault('move', 'a move makes a busy slot look empty', 'Refusals Busy', [
         ('    of->superblocks[slot] = *superblock;\n',
          '    of->superblocks[slot] = *superblock;\n'
          '    of->taken[slot] = 0;\n')]),
-    Fault('reset', 'the free lists stay', 'Blocks Refusals Owners Failed', [
+    Fault('reset', 'a reset keeps the free lists', 'Blocks Refusals Owners Failed', [
         ('    *superblocks = 0;\n'
          '    memset(of->first, 0xff, sizeof of->first);\n',
          '    *superblocks = 0;\n')]),
-    Fault('reset', 'the taken frames stay', 'Busy Refusals', [
+    Fault('reset', 'a reset keeps the number of taken frames', 'Busy Refusals', [
         ('    of->taken[*slot] = 0;\n',
          '')]),
-    Fault('reset', 'the blocks stay', 'Refusals', [
+    Fault('reset', 'a reset keeps the blocks', 'Refusals', [
         ('            memset(of->pages + slot * frames, 0, frames * sizeof *of->pages);\n',
          '')]),
     Fault('hint', 'the block that anybody freed last comes first', 'Alone', [
@@ -139,7 +139,7 @@ LISTS = [
          '        unlink_block(of, hint);\n'
          '        push(of, hint, order);\n'
          '    }\n')]),
-    Fault('order of lists', 'a block goes first or second by all that was freed', 'Alone', [
+    Fault('order of lists', 'all tenants\' frees decide if a block goes first in its list', 'Alone', [
         ('static bool *owned;\n',
          'static bool *owned;\n'
          'static unsigned turn;\n'),
@@ -160,17 +160,17 @@ LISTS = [
          '    if (*slot >= count)\n'
          '        for (*slot = 0; holds(of, *slot); ++*slot)\n'
          '            ;\n')]),
-    Fault('slots', 'blocks are joined in slots 0 to 63', 'Room Blocks Refusals Failed', [
+    Fault('slots', 'blocks are joined only in slots 0 to 63', 'Room Blocks Refusals Failed', [
         ('    while (joined < top) {',
          '    while (joined < top && frame / frames < 64) {')], 160),
     Fault('slots', 'slots 0 to 63 are searched', 'Owners Refusals', [
         ('for (*slot = 0; holds(of, *slot); ++*slot)',
          'for (*slot = 0; holds(of, *slot) && *slot < 64; ++*slot)')], 70),
-    Fault('slots', 'the slot is a bit of 64', 'Busy Refusals', [
+    Fault('slots', 'a free makes the slot 64 below look empty', 'Busy Refusals', [
         ('    *order = of->pages[frame].order;\n',
          '    *order = of->pages[frame].order;\n'
          '    if (frame / frames >= 64) of->taken[frame / frames - 64] = 0;\n')], 160),
-    Fault('slots', 'superblock 255 is nobody', 'Owners Refusals', [
+    Fault('slots', 'superblock 255 counts as no superblock', 'Owners Refusals', [
         ('return slot < count && of->superblocks[slot] < count; }',
          'return slot < count && of->superblocks[slot] < count && of->superblocks[slot] != 255; }')], 270),
     Fault('tenants', 'tenants 32 apart share a hint', 'Alone', [
@@ -207,19 +207,19 @@ LISTS = [
         ('enum reply release(unsigned tenant, uint32_t frame, unsigned *order) {\n',
          'enum reply release(unsigned tenant, uint32_t frame, unsigned *order) {\n'
          '    frame &= ~1u;\n')]),
-    Fault('late', 'no frames after 300 allocations', 'Room', [
+    Fault('late', 'an alloc is refused after 300 allocations', 'Room', [
         ('    unsigned from = order;\n',
          '    unsigned from = order;\n'
          '    static int calls;\n'
          '    if (order <= top && ++calls > 300)\n'
          '        return NO_FRAMES;\n')], MANY),
-    Fault('late', 'no block after 1,000 frees', 'Refusals', [
+    Fault('late', 'a free is refused after 1,000 frees', 'Refusals', [
         ('    *order = of->pages[frame].order;\n',
          '    *order = of->pages[frame].order;\n'
          '    static int calls;\n'
          '    if (++calls > 1000)\n'
          '        return NOT_A_BLOCK;\n')], 3000),
-    Fault('late', 'no superblock after 300 grants', 'Refusals', [
+    Fault('late', 'a grant is refused after 300 grants', 'Refusals', [
         ('    if (!next_superblock(superblock))\n'
          '        return POOL_EMPTY;\n'
          '    for',
@@ -227,7 +227,7 @@ LISTS = [
          '    if (++calls > 300 || !next_superblock(superblock))\n'
          '        return POOL_EMPTY;\n'
          '    for')], 700),
-    Fault('late', 'no superblock after 50 moves', 'Refusals', [
+    Fault('late', 'a move is refused after 50 moves', 'Refusals', [
         ('    if (!next_superblock(superblock))\n'
          '        return POOL_EMPTY;\n'
          '    memcpy',
@@ -235,7 +235,7 @@ LISTS = [
          '    if (++calls > 50 || !next_superblock(superblock))\n'
          '        return POOL_EMPTY;\n'
          '    memcpy')], 200),
-    Fault('late', 'it aborts at the allocation 1,000', 'Failed', [
+    Fault('late', 'it aborts at allocation 1,000', 'Failed', [
         ('    unsigned from = order;\n',
          '    unsigned from = order;\n'
          '    static int calls;\n'
@@ -244,39 +244,39 @@ LISTS = [
 ]
 
 SLABS = [
-    Fault('merge', 'half a block is joined', 'Blocks Report', [
+    Fault('merge', 'a block counts as free if one half is free', 'Blocks Report', [
         ('left == order && right == order',
          'left == order || right == order')]),
     Fault('split', 'the right half is forgotten', 'Room', [
         ('left > right ? left : right',
          'left')]),
-    Fault('bounds', 'objects of 4,097 bytes', 'Refusals Objects', [
+    Fault('bounds', 'objects of 4,097 bytes are accepted', 'Refusals Objects', [
         ('size > MOST_SIZE)',
          'size > MOST_SIZE + 1)')]),
-    Fault('bounds', 'an alignment of 512', 'Refusals Layout', [
+    Fault('bounds', 'an alignment of 512 is accepted', 'Refusals Layout', [
         ('align > 256',
          'align > 512')]),
-    Fault('bounds', '31 caches', 'Refusals', [
+    Fault('bounds', 'a tenant can make only 31 caches', 'Refusals', [
         ('    if (number == MOST_CACHES)',
          '    if (number == MOST_CACHES - 1)')], 40),
-    Fault('bounds', 'the slack behind an object is read', 'Refusals', [
+    Fault('bounds', 'the slack behind an object can be read', 'Refusals', [
         ('length <= cache->size',
          'length <= cache->chunk')]),
-    Fault('bounds', 'the next object is read', 'Refusals', [
+    Fault('bounds', 'a read can go on into the next object', 'Refusals', [
         ('offset % cache->chunk + (uint64_t)length <=',
          '(uint64_t)length <=')]),
-    Fault('bounds', 'an object that is not live is read', 'Refusals', [
+    Fault('bounds', 'an object that is not live can be read', 'Refusals', [
         ('at < cache->objects && slab->taken[at] &&',
          'at < cache->objects &&')]),
-    Fault('layout', 'chunks without alignment', 'Layout', [
+    Fault('layout', 'chunks are not rounded up to the alignment', 'Layout', [
         ('.chunk = (size + align - 1) / align * align',
          '.chunk = size < 8 ? 8 : size')]),
-    Fault('layout', 'one object too many', 'Layout', [
+    Fault('layout', 'slabs are made with one object too many', 'Layout', [
         ('/ cache->chunk;\n'
          '    *layout',
          '/ cache->chunk + 1;\n'
          '    *layout')]),
-    Fault('layout', 'a colour too many', 'Layout', [
+    Fault('layout', 'a cache reports one colour too many', 'Layout', [
         ('cache->objects, 1};',
          'cache->objects, (FRAME_BYTES << cache->order) % cache->chunk / align + 2};')]),
     Fault('layout', 'the last object has no pattern', 'Bytes', [
@@ -287,10 +287,10 @@ SLABS = [
     Fault('layout', 'the pattern goes on from object to object', 'Bytes', [
         ('cache->pattern[byte % cache->length]',
          'cache->pattern[(at * cache->size + byte) % cache->length]')]),
-    Fault('overflow', 'live objects of a slab in a byte', 'Refusals Report Failed Objects', [
+    Fault('overflow', 'the live objects of a slab are counted in a byte', 'Refusals Report Failed Objects', [
         ('    unsigned live;\n',
          '    uint8_t live;\n')], 600),
-    Fault('overflow', 'live objects of a cache in a byte', 'Refusals', [
+    Fault('overflow', 'the live objects of a cache are counted in a byte', 'Refusals', [
         ('    for (unsigned at = 0; at < cache->count; at++)\n'
          '        if (cache->slabs[at].live > 0)\n'
          '            return CACHE_IN_USE;\n',
@@ -299,7 +299,7 @@ SLABS = [
          '        live += cache->slabs[at].live;\n'
          '    if (live > 0)\n'
          '        return CACHE_IN_USE;\n')], 300),
-    Fault('overflow', 'slabs of a cache in a byte', 'Refusals Failed Bytes Objects Report Room', [
+    Fault('overflow', 'the slabs of a cache are counted in a byte', 'Refusals Failed Bytes Objects Report Room', [
         ('length, count;\n',
          'length;\n'
          '    uint8_t count;\n')], 1600),
@@ -308,7 +308,7 @@ SLABS = [
          '        uint8_t *tree',
          '    for (uint32_t slot = 0; slot < count && slot < 64; slot++) {\n'
          '        uint8_t *tree')], 135),
-    Fault('slots', 'empty slabs go in slots 0 to 63', 'Room', [
+    Fault('slots', 'empty slabs are freed only if one is in slots 0 to 63', 'Room', [
         ('        return false;\n'
          '    drop_all_empty',
          '        return false;\n'
@@ -319,27 +319,27 @@ SLABS = [
          '    if (!is_low)\n'
          '        return false;\n'
          '    drop_all_empty')], 160),
-    Fault('slots', 'an empty slab in the first slot stays', 'Room', [
+    Fault('slots', 'an empty slab in slot 0 does not count as free', 'Room', [
         ('            if (slab->live == 0)\n'
          '                set_free',
          '            if (slab->live == 0 && slab->first >= frames)\n'
          '                set_free')]),
-    Fault('edges', 'the last object of a slab is not taken', 'Room', [
+    Fault('edges', 'the last object of a slab is never taken', 'Room', [
         ('        if (slab->live < cache->objects &&',
          '        if (slab->live + 1 < cache->objects &&')], 20),
-    Fault('edges', 'a slab has one object more', 'Objects', [
+    Fault('edges', 'a take uses one object more than a slab has', 'Objects', [
         ('        if (slab->live < cache->objects &&',
          '        if (slab->live <= cache->objects &&')]),
     Fault('scrub', 'slabs are not zeroed', 'Bytes', [
         ('    memset(bytes_at(of, first * FRAME_BYTES), 0, (size_t)FRAME_BYTES << cache->order);\n',
          '')]),
-    Fault('scrub', 'one frame of a slab is zeroed', 'Bytes', [
+    Fault('scrub', 'only one frame of a slab is zeroed', 'Bytes', [
         ('0, (size_t)FRAME_BYTES << cache->order);',
          '0, FRAME_BYTES);')]),
-    Fault('move', 'a frame is not moved', 'Bytes', [
+    Fault('move', 'the last frame is not moved', 'Bytes', [
         ('from, size_of_superblock());',
          'from, size_of_superblock() - FRAME_BYTES);')], 30),
-    Fault('reset', 'the caches stay', 'Refusals Layout Form Report Failed', [
+    Fault('reset', 'a reset keeps the caches', 'Refusals Layout Form Report Failed', [
         ('        free(cache->slabs);\n'
          '        memset(cache, 0, sizeof *cache);\n'
          '    }\n'
@@ -347,7 +347,7 @@ SLABS = [
          '        cache->count = 0;\n'
          '    }\n'
          '    return DONE;')]),
-    Fault('hint', 'the next object of all tenants', 'Alone', [
+    Fault('hint', 'all tenants share a hint for the next object', 'Alone', [
         ('    while (slab->taken[at])\n'
          '        at++;\n',
          '    static unsigned hint;\n'
@@ -367,17 +367,17 @@ SLABS = [
     Fault('leak', 'empty slabs are kept if frames are short', 'Room', [
         ('    if (!would_fit(of, order))\n',
          '    if (count > 0)\n')], 30),
-    Fault('reap', 'slabs go though there is no block then', 'Still', [
+    Fault('reap', 'empty slabs are freed even if no block fits then', 'Still', [
         ('    if (!would_fit(of, order))\n'
          '        return false;\n',
          '')], 20),
-    Fault('reap', 'slabs are counted as frames', 'Still Gives', [
+    Fault('reap', 'a freed slab is counted as one frame', 'Still Gives', [
         ('    return 1u << cache->order;',
          '    return 1;')]),
-    Fault('report', 'empty slabs are partial', 'Report', [
+    Fault('report', 'empty slabs are counted as partial', 'Report', [
         ('slab->live > 0 && slab->live <',
          'slab->live <')]),
-    Fault('report', 'slabs are not taken', 'Report', [
+    Fault('report', 'slabs are not counted as taken blocks', 'Report', [
         ('of->kinds[frame] != NOTHING &&',
          'of->kinds[frame] == PAGES &&')]),
     Fault('double free', 'an object is given back twice', 'Refusals', [

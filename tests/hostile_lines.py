@@ -15,7 +15,7 @@ LINES = {
     "!> fault Words": "admin|0|\t0 |4294967295|admin grant|admin grant 0 0|admin pool 0|admin move 0|0 alloc|0 alloc 0 0"
     "|0 alloc x y|0 alloc 0 #|0 read 0|0 write 0|0 write 0 00 00|0 cache 16 8|0 cache 16 8 00 00 00|0 reap 0|0 report 0"
     "|0 give 0 0 0 0 0 0 0 0",
-    # A word that is not a number of at most ten digits and 32 bits.
+    # A word that is not a number, or is a number of more than ten digits or of more than 32 bits.
     "!> fault Number": "0x alloc 0|1e3 report|0\0 reap|0\x0breap|00000000000 reap|00000000001 alloc 0|4294967296 report"
     "|9999999999 report|18446744073709551616 report|0 alloc x|0 alloc #|0 alloc -1|0 alloc +1|0 alloc 0x1|0 alloc 1.0"
     "|0 alloc \xff|0 alloc 0\0|0 alloc 0\r\r|0 alloc 0\r |0 alloc 00000000000|0 alloc 4294967296|0 alloc 18446744073709551616"

@@ -9,7 +9,7 @@
  * is set, each instruction raises SIGTRAP, whose handler has a stack of its own. This program itself is compiled without red zone
  * and vector registers. It prints the number of interrupts to standard error.
  */
-#define _GNU_SOURCE /* registers by name */
+#define _GNU_SOURCE /* for REG_RSP */
 #include <signal.h>
 #include <stdio.h>
 #include <stdlib.h>

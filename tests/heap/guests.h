@@ -14,7 +14,7 @@ struct guest {
     uint64_t random;
     uint64_t results, places; /* hashes of all results, and of the places of all pieces */
     unsigned long calls, refused, failed, steps; /* calls of the heap, and refused ones; steps short of memory, and all */
-    void *state[STATES];                         /* for the program */
+    void *state[STATES];                         /* what the program keeps between its steps */
 };
 
 /* A program, and how many superblocks of 128 KiB its guest gets: so few that it sometimes runs out of memory. */
