@@ -66,7 +66,7 @@ names = {"MachineStorage": "partmem_machine"}
 
 
 def of_rust(text):
-    """Returns the type of C for a type of Rust."""
+    """Returns the C type for a type of Rust."""
     array = re.fullmatch(r"\[(\w+); (\w+)\]", text)
     if array:
         return f"{of_rust(array[1])}[{array[2]}]"

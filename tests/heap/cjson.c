@@ -1,4 +1,4 @@
-/* cJSON: makes trees grow, prints them, parses the text, and compares the trees. */
+/* cJSON: makes trees grow, prints them, parses the printed text, and compares the parsed tree with the printed one. */
 #include <cjson/cJSON.h>
 
 #include "guests.h"

@@ -110,7 +110,7 @@ static void open_guest(uint32_t number)
     MUST(partmem_heap_init(&guest->heap, (partmem_tenant){&machine, number}, NULL) == PARTMEM_DONE);
 }
 
-/* Boots a machine in which a tenant that is no guest has this many superblocks, and sets up the libraries. */
+/* Boots a machine, grants this many superblocks to a tenant that is no guest, and sets up the libraries. */
 static void begin(uint32_t others)
 {
     boot(&machine, ORDER, 256, OTHER + 1);

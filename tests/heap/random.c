@@ -135,7 +135,8 @@ static bool is_apart(const struct user *user, const struct piece *piece)
     return true;
 }
 
-/* Checks and notes a piece that a heap returned at `at`, whose first `kept` bytes have to be its old ones. Fills it anew. */
+/* Checks and notes a piece that a heap returned at `at`, and fills it anew. Its first `kept` bytes have to be those that it had
+ * before. */
 static void add_piece(struct user *user, struct piece *piece, void *at, size_t align, size_t bytes, size_t kept)
 {
     piece->kind = PIECE;
@@ -442,7 +443,7 @@ static void open_user(uint32_t number, uint64_t seed)
     MUST(partmem_heap_init(&user->heap, user->tenant, config) == PARTMEM_DONE && has_runs(user) == wants_runs(number));
 }
 
-/* Frees everything that a tenant has, and checks that no frame is in use then. */
+/* Frees everything that a tenant has, and checks that none of its frames is then taken. */
 static void close_user(struct user *user)
 {
     partmem_figures figures;

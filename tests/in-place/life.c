@@ -9,7 +9,7 @@
 enum { TENANTS = 4, ORDER = 3, SUPERBLOCKS = 14, SUPERBLOCK_BYTES = 4096 << ORDER, MOST = 24, CACHES = 3 };
 static const uint32_t sizes[CACHES] = {72, 1200, 4096}, aligns[CACHES] = {32, 256, 8};
 
-/* Something that is lent: a block, or an object of a cache. */
+/* Lent memory: a page block, or an object of a cache. */
 struct range {
     partmem_lent lent;
     bool is_live, is_object;

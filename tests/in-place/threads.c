@@ -35,7 +35,7 @@ static void store(partmem_status status, const partmem_lent *lent)
     if (status == PARTMEM_DONE) memset(lent->at, 0xee, lent->bytes);
 }
 
-/* Makes a call for a tenant whose memory nothing else uses. */
+/* Makes a call for a tenant whose memory the first thread does not use. */
 static void call_for_other(partmem_tenant other, unsigned *random)
 {
     partmem_lent lent;
@@ -55,7 +55,7 @@ static void call_for_other(partmem_tenant other, unsigned *random)
     }
 }
 
-/* Makes a call for the tenant whose ranges are in use, but none that ends their lifetime. */
+/* Makes a call for the tenant whose ranges the first thread uses. No call frees or moves these ranges. */
 static void call_for_same(partmem_tenant same, unsigned *random)
 {
     partmem_lent lent;
