@@ -326,7 +326,7 @@ static enum reply destroy(unsigned tenant, uint32_t number, unsigned *freed) {
     return DONE;
 }
 
-/* Returns a partial slab, or else an empty one, or else a new one, or NULL if there is no block for a new one. */
+/* Returns a partial slab. If there is none, returns an empty slab or else a new one; returns NULL if no block is free for it. */
 static struct slab *slab_with_room(unsigned tenant, struct cache *cache) {
     struct slab *best = NULL;
     uint32_t first;
