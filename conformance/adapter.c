@@ -14,14 +14,14 @@ static const char *const REFUSALS[] = {
 
 static unsigned machine_order, superblocks, tenants;
 
-/* The owner of each superblock, as the replies gave it. */
+/* The owner of each superblock, according to the replies so far. */
 static struct {
     bool owned;
     unsigned tenant;
     uint32_t slot;
 } owners[MOST_SUPERBLOCKS];
 
-/* The first words of the line, and how many words it has in all. */
+/* The first MOST_WORDS words of the line, and how many words it has in all. */
 static char *words[MOST_WORDS];
 static int count;
 
@@ -53,7 +53,7 @@ static bool is_hex(const char *word, unsigned most) {
 static void fault(const char *name) { printf("!> fault %s\n", name); }
 
 /* Parses the words after the actor and the command. `forms` has a letter for each: n for a number, b for up to MOST_BYTES bytes,
- * p for a pattern. Prints a fault and returns false if a word has another form, or if there are more or fewer words. */
+ * p for a pattern. Prints a fault and returns false if there are more or fewer words, or if a word has another form. */
 static bool have_forms(const char *forms) {
     if ((size_t)count != 2 + strlen(forms)) {
         fault("Words");
@@ -86,7 +86,7 @@ static void own(unsigned superblock, unsigned tenant, uint32_t slot) {
     owners[superblock].slot = slot;
 }
 
-/* Notes that nobody owns the superblock of this slot of the tenant, or those of all its slots if `slot` is NULL. */
+/* Notes that nobody owns the superblock of this slot of the tenant. If `slot` is NULL, notes it for all slots of the tenant. */
 static void disown(unsigned tenant, const uint32_t *slot) {
     for (unsigned i = 0; i < superblocks; i++)
         if (owners[i].tenant == tenant && (slot == NULL || owners[i].slot == *slot))
@@ -197,7 +197,7 @@ static void use(unsigned tenant, int command) {
         use_caches(tenant, command);
 }
 
-/* Returns the command of this name, or a negative number. */
+/* Returns the index of the line's command, words[1], among the first `most` names, or -1 if it is not one of them. */
 static int command_of(const char *const names[][2], int most) {
     while (--most >= 0 && strcmp(words[1], names[most][0]) != 0)
         ;
@@ -234,8 +234,8 @@ static void answer(void) {
     }
 }
 
-/* Reads the next line and splits it into words. Prints a fault if it is too long; it then has no words. Returns false at the end
- * of the trace. */
+/* Reads the next line and splits it into words. If the line is too long, prints a fault and sets `count` to 0. Returns false at
+ * the end of the trace. */
 static bool next_line(char *line) {
     int size = 0, byte;
     while ((byte = getchar()) != EOF && byte != '\n')

@@ -3,13 +3,14 @@
  *
  *     cc -O2 -o mine conformance/adapter.c mine.c && conformance/check --pages ./mine
  *
- * A superblock has 2^order frames of FRAME_BYTES bytes. Slot u of a tenant has the 2^order frames from u * 2^order on. Frame f
- * has the FRAME_BYTES places from f * FRAME_BYTES on. All places are below 2^32. A grant may take any slot that the tenant does
- * not hold.
+ * A superblock has 2^order frames of FRAME_BYTES bytes. Slot u of a tenant has the 2^order frames from u * 2^order on. Each byte
+ * of a tenant has a number, its place: frame f has the FRAME_BYTES places from f * FRAME_BYTES on. All places are below 2^32. A
+ * grant may choose any slot that the tenant does not hold.
  *
- * The tenant that is passed always exists, and the lengths of a write and of a pattern are right. All other numbers may be any
- * 32-bit numbers. The refusals of a function are named in the order in which they are tested. A function that refuses changes
- * nothing and returns the first refusal that applies. Otherwise it stores its results and returns DONE. */
+ * The tenant that is passed always exists. The length of a write is 1 to MOST_BYTES, and the length of a pattern is 1 to
+ * MOST_PATTERN. All other numbers may be any 32-bit numbers. The refusals of a function are listed in the order in which it has
+ * to test them. A function that refuses changes nothing and returns the first refusal that applies. Otherwise it stores its
+ * results and returns DONE. */
 #ifndef PARTMEM_ADAPTER_H
 #define PARTMEM_ADAPTER_H
 
@@ -44,14 +45,14 @@ enum reply {
 /* Boots a machine on which nobody owns a superblock and the tenants have nothing. Returns false if memory runs out. */
 bool boot(unsigned order, unsigned superblocks, unsigned tenants);
 
-/* Grants a superblock that nobody owns, in a slot that the tenant does not hold. All its bytes read as zero. Refusal:
- * POOL_EMPTY. */
+/* Grants the tenant a superblock that nobody owns, in a slot that the tenant does not hold. Stores the numbers of both. All bytes
+ * of the superblock read as zero. Refusal: POOL_EMPTY. */
 enum reply grant(unsigned tenant, uint32_t *slot, unsigned *superblock);
 
 /* Takes back a slot that has no taken frames, and stores the number of its superblock. Refusals: NO_SLOT, SLOT_BUSY. */
 enum reply take_back(unsigned tenant, uint32_t slot, unsigned *superblock);
 
-/* Takes back all that the tenant has, and stores how many superblocks it had. It is never refused. */
+/* Takes back all that the tenant has, and stores how many superblocks it had. A reset is never refused. */
 enum reply reset(unsigned tenant, unsigned *superblocks);
 
 /* Moves the slot, with all its bytes, to a superblock that nobody owns, and stores that superblock's number. Refusals: NO_SLOT,
@@ -65,14 +66,14 @@ enum reply alloc(unsigned tenant, uint32_t order, uint32_t *frame);
 enum reply release(unsigned tenant, uint32_t frame, unsigned *order);
 
 /* Reads `length` bytes that all lie in one block or object of the tenant. `bytes` has space for MOST_BYTES. Refusals: BAD_LENGTH
- * unless the length is 1 to MOST_BYTES, OUT_OF_REACH. */
+ * unless the length is 1 to MOST_BYTES, then OUT_OF_REACH. */
 enum reply read_bytes(unsigned tenant, uint32_t place, uint32_t length, uint8_t *bytes);
 
 /* Writes bytes that all lie in one block or object of the tenant. `length` is always 1 to MOST_BYTES. Refusal: OUT_OF_REACH. */
 enum reply write_bytes(unsigned tenant, uint32_t place, uint32_t length, const uint8_t *bytes);
 
-/* What the reply to a new cache says: the cache's number, the bytes from one object to the next, the order of a slab, the objects
- * in a slab, and the number of colours. */
+/* The numbers in the reply to a new cache: the cache's number, the bytes from one object to the next, the order of a slab, the
+ * objects in a slab, and the number of colours. */
 struct layout {
     unsigned number, chunk, order, objects, colours;
 };
@@ -82,7 +83,8 @@ struct order_row {
     unsigned free, taken;
 };
 
-/* The row of a cache in a report: its number, how many of its slabs are full, partial and empty, and its live objects. */
+/* The row of a cache in a report: its number, how many of its slabs are full, partial and empty, and how many of its objects are
+ * live. */
 struct cache_row {
     unsigned number, full, partial, empty, live;
 };
@@ -110,7 +112,8 @@ struct caches {
     void (*report)(unsigned tenant, struct figures *figures);
 };
 
-/* Returns your caches, or NULL if there are none. A command of caches then ends the program, so test it with --pages. */
+/* Returns the functions of your caches, or NULL if your allocator has no caches. If it returns NULL, the commands cache, destroy,
+ * take, give, reap and report end the program, so test it with --pages. */
 const struct caches *caches(void);
 
 #ifdef __cplusplus

@@ -8,12 +8,12 @@
 //! `mine.rs` includes this file by `#[path = "conformance/adapter.rs"] mod adapter;`.
 //!
 //! A superblock has `2^order` frames of [`FRAME_BYTES`] bytes. Slot `u` of a tenant has the `2^order` frames from `u * 2^order`
-//! on. Frame `f` has the `FRAME_BYTES` places from `f * FRAME_BYTES` on. All places are below 2^32. A grant may take any slot
-//! that the tenant does not hold.
+//! on. Each byte of a tenant has a number, its place: frame `f` has the `FRAME_BYTES` places from `f * FRAME_BYTES` on. All
+//! places are below 2^32. A grant may choose any slot that the tenant does not hold.
 //!
-//! The tenant that is passed always exists, and the lengths of a write and of a pattern are right. All other numbers may be any
-//! 32-bit numbers. The refusals of a function are named in the order in which they are tested. A function that refuses changes
-//! nothing and returns the first refusal that applies.
+//! The tenant that is passed always exists. A write has 1 to [`MOST_BYTES`] bytes, a pattern 1 to 16. All other numbers may be
+//! any 32-bit numbers. The refusals of a function are listed in the order in which it has to test them. A function that refuses
+//! changes nothing and returns the first refusal that applies.
 #![allow(dead_code)]
 
 use std::io::{self, BufRead, Write};
@@ -52,12 +52,12 @@ pub struct Sizes {
 }
 
 pub trait Allocator {
-    /// Grants a superblock that nobody owns, in a slot that the tenant does not hold. All its bytes read as zero. Returns the
-    /// slot and the superblock. Refusal: PoolEmpty.
+    /// Grants the tenant a superblock that nobody owns, in a slot that the tenant does not hold. All bytes of the superblock read
+    /// as zero. Returns the slot and the superblock. Refusal: PoolEmpty.
     fn grant(&mut self, tenant: u32) -> Result<(u32, u32), Refusal>;
     /// Takes back a slot that has no taken frames. Returns its superblock. Refusals: NoSlot, SlotBusy.
     fn take_back(&mut self, tenant: u32, slot: u32) -> Result<u32, Refusal>;
-    /// Takes back all that the tenant has. Returns how many superblocks it had.
+    /// Takes back all that the tenant has. Returns how many superblocks it had. A reset is never refused.
     fn reset(&mut self, tenant: u32) -> u32;
     /// Moves the slot, with all its bytes, to a superblock that nobody owns. Returns that superblock. Refusals: NoSlot,
     /// PoolEmpty.
@@ -67,17 +67,18 @@ pub trait Allocator {
     /// Frees the block that begins at the frame. Returns its order. Refusal: NotABlock.
     fn free(&mut self, tenant: u32, frame: u32) -> Result<u32, Refusal>;
     /// Returns `length` bytes that all lie in one block or object of the tenant. Refusals: BadLength unless the length is 1 to
-    /// [`MOST_BYTES`], OutOfReach.
+    /// [`MOST_BYTES`], then OutOfReach.
     fn read(&mut self, tenant: u32, place: u32, length: u32) -> Result<Vec<u8>, Refusal>;
     /// Writes 1 to [`MOST_BYTES`] bytes that all lie in one block or object of the tenant. Refusal: OutOfReach.
     fn write(&mut self, tenant: u32, place: u32, bytes: &[u8]) -> Result<(), Refusal>;
-    /// Returns your caches, or `None` if there are none. A command of caches then ends the program, so test it with --pages.
+    /// Returns your caches, or `None` if your allocator has none. If it returns `None`, the commands cache, destroy, take, give,
+    /// reap and report end the program, so test it with --pages.
     fn caches(&mut self) -> Option<&mut dyn Caches> {
         None
     }
 }
 
-/// What the reply to a new cache says: the cache's number, the bytes from one object to the next, the order of a slab, the
+/// The numbers in the reply to a new cache: the cache's number, the bytes from one object to the next, the order of a slab, the
 /// objects in a slab, and the number of colours.
 #[derive(Clone, Copy, Debug)]
 pub struct Layout {
@@ -88,7 +89,8 @@ pub struct Layout {
     pub colours: u32,
 }
 
-/// The row of a cache in a report: its number, how many of its slabs are full, partial and empty, and how many objects are live.
+/// The row of a cache in a report: its number, how many of its slabs are full, partial and empty, and how many of its objects are
+/// live.
 #[derive(Clone, Copy, Debug)]
 pub struct CacheRow {
     pub number: u32,
@@ -98,7 +100,8 @@ pub struct CacheRow {
     pub live: u32,
 }
 
-/// The figures of a report: how many blocks of each order are free and taken, and the caches in the order of their numbers.
+/// The figures of a report: for each order from 0 on, how many blocks are free and how many are taken; and the rows of the
+/// caches, in the order of the caches' numbers.
 #[derive(Clone, Debug, Default)]
 pub struct Figures {
     pub orders: Vec<(u32, u32)>,
@@ -119,7 +122,7 @@ pub trait Caches {
     fn report(&mut self, tenant: u32) -> Figures;
 }
 
-/// The owner of each superblock, a tenant and its slot, as the replies gave it.
+/// For each superblock, the tenant that owns it and the tenant's slot, according to the replies so far; `None` if nobody owns it.
 type Owners = Vec<Option<(u32, u32)>>;
 
 enum Argument {

@@ -7,7 +7,7 @@ use std::process::ExitCode;
 
 struct Superblock {
     owner: Option<(u32, u32)>,
-    /// By frame, the first frame and the order of the block that contains it; `None` if the frame is free.
+    /// For each frame, the block that contains it: the block's first frame and order. `None` if the frame is free.
     blocks: Vec<Option<(usize, u32)>>,
     bytes: Vec<u8>,
 }
@@ -40,7 +40,7 @@ impl FirstFit {
         of.bytes.fill(0);
     }
 
-    /// Returns the superblock and the offset of these bytes in it, if one block has them all. Refusal: OutOfReach.
+    /// If one block contains all these bytes, returns its superblock and their offset in it. Refusal: OutOfReach.
     fn reach(&self, tenant: u32, place: u32, length: u32) -> Result<(usize, usize), Refusal> {
         let (frame, offset) = ((place / FRAME_BYTES) as usize, (place % FRAME_BYTES) as usize);
         let superblock = self.held(tenant, (frame / self.frames) as u32).ok_or(Refusal::OutOfReach)?;

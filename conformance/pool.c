@@ -10,7 +10,7 @@ enum { NO_BLOCK = 0xff };
 struct slot {
     unsigned superblock;
     void *whole;     /* what calloc returned */
-    uint8_t *memory; /* aligned */
+    uint8_t *memory; /* the pool's part of it, aligned to its size */
     struct pool *pool;
     /* by frame: whether it is taken, and the order of the block that begins there, or NO_BLOCK */
     bool taken[1 << MOST_ORDER];
@@ -113,7 +113,7 @@ enum reply alloc(unsigned tenant, uint32_t order, uint32_t *frame) {
         uint8_t *block = of == NULL ? NULL : pool_alloc(of->pool, order);
         if (block == NULL)
             continue;
-        /* If the block is outside the memory or does not begin at a frame, the reply names a frame above all slots, which breaks
+        /* If the block is outside the memory or is not aligned to a frame, the reply names a frame above all slots, which breaks
          * a promise. */
         size_t offset = (size_t)(block - of->memory);
         bool is_inside = block >= of->memory && offset < size && offset % FRAME_BYTES == 0;
@@ -140,7 +140,7 @@ enum reply release(unsigned tenant, uint32_t frame, unsigned *order) {
     return DONE;
 }
 
-/* Returns the address of these bytes if one block of the tenant has them all, or else NULL. */
+/* Returns the address of these bytes if one block of the tenant contains them all, or else NULL. */
 static uint8_t *reach(unsigned tenant, uint32_t place, uint32_t length) {
     struct slot *of = held(tenant, place / FRAME_BYTES / frames);
     uint32_t at = place / FRAME_BYTES % frames, first = at;

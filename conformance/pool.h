@@ -3,8 +3,9 @@
  *
  *     cc -O2 -o mine conformance/adapter.c conformance/pool.c mine.c && conformance/check --pages ./mine
  *
- * pool.c makes a pool for each slot of a tenant, each with its own memory. It handles grants, take-backs and moves itself, checks
- * reads and writes, and zeroes memory. Superblocks are only numbers. So the test is about which blocks the pool returns. */
+ * pool.c makes a pool, with its own zeroed memory, for each slot that a tenant holds. It handles grants, take-backs, resets and
+ * moves itself, and checks the places of reads and writes. In pool.c a superblock is only a number. So the test is about which
+ * blocks your pools return. */
 #ifndef PARTMEM_POOL_H
 #define PARTMEM_POOL_H
 
@@ -18,8 +19,9 @@ struct pool;
  * records elsewhere, since every frame can be allocated. Returns NULL if memory runs out. */
 struct pool *pool_init(void *memory, unsigned order);
 
-/* Returns a block of 2^order frames, aligned to its size, or NULL if there is none. order is at most the pool's. The choice may
- * depend only on the earlier calls for this pool. A block that was freed may be returned with its old bytes or zeroed. */
+/* Returns a block of 2^order frames, aligned to its size, or NULL if there is none. order is at most the order of the pool. The
+ * choice may depend only on the earlier calls for this pool. A block that was freed may be returned with its old bytes or
+ * zeroed. */
 void *pool_alloc(struct pool *pool, unsigned order);
 
 /* Frees a block that pool_alloc returned for a request of this order. */
