@@ -1,4 +1,4 @@
-"""Ends all processes below this one when it ends, even those that left its process group or its session."""
+"""Ends all descendants of this process when this process ends, even those that left its process group or its session."""
 import contextlib
 import ctypes
 import os
@@ -8,7 +8,7 @@ SET_PARENT_DEATH_SIGNAL, SET_CHILD_SUBREAPER = 1, 36
 
 
 def adopt():
-    """Makes this process the parent of processes below it whose own parent ends. Only Linux can do this."""
+    """Makes this process the parent of each of its descendants whose own parent ends. Works only on Linux."""
     control(SET_CHILD_SUBREAPER, 1)
 
 
@@ -32,8 +32,8 @@ def children():
 
 
 def kill_all():
-    """Kills all processes below this one and waits for them. The children of a killed process become children of this one, and
-    are killed too."""
+    """Kills all descendants of this process and waits for them. After `adopt` the children of a killed process become children of
+    this one, and are killed too."""
     while left := children():
         for number in left:
             with contextlib.suppress(ProcessLookupError, PermissionError):

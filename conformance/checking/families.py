@@ -1,4 +1,5 @@
-"""Finds the lines of a run that belong together: a line whose reply gives a name, and the lines that need this name."""
+"""Finds the lines of a run that belong together: a line whose reply gives a name, and the lines that need this name. A name is
+the number of a slot, a cache, a block's first frame or an object's first place."""
 import collections
 import contextlib
 
@@ -31,12 +32,13 @@ class Givers:
                 self.giver(number * FRAME_BYTES if kind == 'frame' else number) for kind, number in numbers]
 
     def giver(self, place):
-        """Returns the line that gave the block or object with this place, or else the line that gave the place's slot."""
+        """Returns the line that gave the block or object that contains this place or is beside it. If there is none, returns the
+        line that gave the place's slot."""
         begin = self.places.around(place)
         return self.slots.get(place // FRAME_BYTES >> self.order) if begin is None else self.places.known[begin][1]
 
     def slot_of_new(self, at, words, told, kind):
-        """Notes what a line gives. If it gives a block or an object, returns the line that gave its slot."""
+        """Notes what a line gives. If it gives a block or an object, returns the line that gave the slot in which it lies."""
         if kind == 'granted':
             self.slots[number_in(told[3])] = at
         elif kind == 'cache':

@@ -9,9 +9,10 @@ from .runs import Run, is_own
 from .talk import Programs
 from .words import Sizes
 
-# If more than one of this many lines is refused with NoFrames or PoolEmpty, everything counts as full.
+# Everything counts as full if, of the lines sent at once, more than one in FULL is refused with NoFrames or PoolEmpty.
 FULL = 3
-# How many own lines are sent at once, with noise between them; and the most lines of noise before each own line.
+# How many lines of a tenant's own list are sent at once, with noise (lines of other tenants) between them; and the most lines of
+# noise before each line of the own list.
 OWN_AT_ONCE, MOST_NOISE = 16, 3
 
 
@@ -19,7 +20,7 @@ class Reached(NamedTuple):
     """What the runs reached: how many lines they had, how often each refusal came, and how large the machines were."""
     lines: int = 0
     refused: collections.Counter = collections.Counter()
-    most: collections.Counter = collections.Counter()           # the most that one tenant had at a time
+    most: collections.Counter = collections.Counter()           # by noun, such as `slots`: the most that one tenant had at a time
     orders: frozenset = frozenset()
     tenants: int = 0
     widest: Sizes = Sizes(0, 0, 0)
@@ -68,8 +69,8 @@ def load(options, number):
 
 
 def say_phase(run, maker, phase, at_once):
-    """Sends the lines of a phase. Stops when all are sent, when the goal is reached, or when everything is full or empty, if the
-    phase ends then."""
+    """Sends the lines of a phase. Stops when all are sent, when the goal is reached, when the program fails, or when everything
+    is full or empty as `phase.until` says."""
     left, world = phase.lines, run.world
     phase = phase._replace(slot=world.tenants[phase.tenants[0]].slot_of_rank(phase.rank))
     while left > 0 and not run.failure and maker.commands(phase):
@@ -84,8 +85,8 @@ def say_phase(run, maker, phase, at_once):
 
 
 def most_lines(world, phase):
-    """Returns how many lines of a phase may be sent at once without passing its goal; 0 if the goal is reached, or if nothing is
-    held and the phase ends then."""
+    """Returns how many lines of a phase may be sent at once without passing its goal; 0 if the goal is reached, or if the phase
+    ends when nothing is held and nothing is held."""
     tenants, most = [world.tenants[tenant] for tenant in phase.tenants], phase.lines
     if phase.until == 'empty' and not any(tenant.held() for tenant in tenants):
         return 0
@@ -101,7 +102,7 @@ def refused_for_want(world):
 
 
 def most_held(lines):
-    """Returns the most slots that the tenant of these own lines holds at a time."""
+    """Returns the most slots that a tenant holds at a time while the lines of its own list run."""
     held = most = 0
     for words in map(str.split, lines):
         step = words[1] if words[0] == 'admin' else ''
@@ -111,8 +112,8 @@ def most_held(lines):
 
 
 def between_noise(programs, before, tenant, maker):
-    """Runs a tenant's own list from an earlier run again, between lines of the others. These leave enough superblocks for the
-    tenant's grants."""
+    """Runs a tenant's own list from an earlier run again, between new lines of the other tenants. The other tenants leave enough
+    superblocks for the grants of the own list."""
     sizes, lines = before.sizes, before.own_list(tenant)
     others = [number for number in range(sizes.tenants) if number != tenant]
     noise = Phase(0, ALL, others, [0, 0, 0, 1, 1, 2, sizes.order])

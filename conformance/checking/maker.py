@@ -38,7 +38,7 @@ class Goal(NamedTuple):
 
 
 class Phase(NamedTuple):
-    """Lines of one kind: which commands, in which proportion, of which tenants. The phase may end before all are sent."""
+    """Lines of one kind: which commands, in which proportion, of which tenants. The phase may end before all lines are sent."""
     lines: int
     weights: str
     tenants: list
@@ -48,7 +48,7 @@ class Phase(NamedTuple):
     until: str = ''                                             # it ends when everything is `full` or `empty`, if this says so
     goal: Optional[Goal] = None                                 # it also ends when its first tenant reaches this
     is_plain: bool = False                                      # no number is wrong on purpose
-    rank: Optional[int] = None                                  # the one slot that is used: 0 is the lowest, -1 the highest
+    rank: Optional[int] = None                                  # the rank of the only slot used: 0 is the lowest, -1 the highest
     slot: Optional[int] = None                                  # the number of that slot
 
 
@@ -84,8 +84,8 @@ class Maker:
         return ' '.join(map(str, [actor, *self.command(world, phase, world.tenants[tenant], command)]))
 
     def for_a_slot(self, world, tenant):
-        """Returns a grant to this tenant if a superblock is free. Otherwise returns an owner, and mostly a command that takes
-        superblocks from it."""
+        """Returns a tenant and an administrator's command for it. If a superblock is free, this is a grant to `tenant`. Otherwise
+        it is a command for a tenant that has superblocks, mostly one that takes them back."""
         owners = [number for number, other in enumerate(world.tenants) if other.slots]
         if sum(len(world.tenants[number].slots) for number in owners) < world.sizes.superblocks:
             return tenant, 'grant'
@@ -115,13 +115,15 @@ class Maker:
         return self.near(slots.draw(self.rng) if slots else 0, 1, [1 << 20 - world.sizes.order, 1 << 32 - world.sizes.order])
 
     def near(self, number, span, spans=()):
-        """Returns a wrong number: beside this one, at a distance from it at which fewer bits would wrap to it, or at an edge."""
+        """Returns a number that is probably wrong: it is next to this one, or differs from it by `span`, 2^8, 2^16 or one of
+        `spans`, or is at an edge. A program that uses too few bits may take it for this one."""
         spans = [1, span, 1 << 8, 1 << 16, *spans]
         wrong = number + self.one([1, 1, -1]) * self.one(spans) if self.rng.random() < 0.7 else self.one(EDGES)
         return min(max(wrong, 0), MOST_NUMBER)
 
     def command(self, world, phase, tenant, command):
-        """Returns the words of a command."""
+        """Returns the words of a line after its actor: the command and its arguments. May replace a command that would have
+        nothing to name."""
         if command == 'free' and not tenant.pages and self.rng.random() < 0.8:
             command = 'alloc'
         if command == 'give' and not tenant.objects and self.rng.random() < 0.8:
@@ -153,13 +155,14 @@ class Maker:
         return self.one([world.sizes.order, world.sizes.order + 1]) if chance < 0.98 else self.one(WRONG_ORDERS)
 
     def drawn_in(self, bag, phase, places):
-        """Returns a number from the bag, one in the phase's slot if there is one. Each slot has `places` numbers."""
+        """Returns a number from the bag. If the phase has a slot and the bag has a number in it, the number is in this slot. Each
+        slot has `places` numbers."""
         inside = [key for key in bag.keys if key // places == phase.slot] if phase.slot is not None else []
         return self.one(inside) if inside else bag.draw(self.rng)
 
     def page(self, world, phase, tenant):
-        """Returns the first frame of a block, or rarely another number. The block leaves the bag, so it is not drawn again before
-        the reply is there."""
+        """Returns the first frame of a block, or rarely another number. The block leaves the bag, so it is not drawn again while
+        the reply to its free is awaited."""
         if tenant.pages and self.is_right(phase, 0.93):
             first = self.drawn_in(tenant.pages, phase, 1 << world.sizes.order)
             tenant.pages.drop(first)
@@ -221,15 +224,15 @@ class Maker:
         return place, tenant.caches.get(tenant.objects.get(place), Cache()).size
 
     def at(self, size, length):
-        """Returns the offset of a range from the first place of a block."""
+        """Returns the offset of a range of `length` bytes from the first place of a block or an object of `size` bytes."""
         rng = self.rng
         chance, last = rng.random(), max(size - length, 0)
         if chance < 0.2:
             return 0
         if chance < 0.42:
-            return last                                         # ends at the end
+            return last                                         # ends at the block's end
         if chance < 0.52:
-            return last + 1                                     # ends one past it
+            return last + 1                                     # ends one byte past it
         if chance < 0.62:
             # begins right behind the block or one byte before it, ends right before it, or crosses its end or its beginning
             return self.one([size, -1, -length, size - rng.randint(1, length), -rng.randint(1, length)])

@@ -1,4 +1,4 @@
-"""The command line."""
+"""Reads the command line of conformance/check."""
 import argparse
 import functools
 import os
@@ -29,14 +29,15 @@ EXITS = f"""exit status:
 
 
 class Parser(argparse.ArgumentParser):
-    """Reports an error in one line."""
+    """A parser that reports an error in one line."""
 
     def error(self, message):
         self.exit(UNUSABLE, f'{self.prog}: {message}; see --help\n')
 
 
 def number_of(kind, least, most, text):
-    """Returns the number that a word of the command line spells. Raises ArgumentTypeError if it is not within the limits."""
+    """Returns the number that a word of the command line spells. Raises ArgumentTypeError if the word is no number, or if the
+    number is not within the limits."""
     try:
         number = kind(text)
     except ValueError:
@@ -107,7 +108,7 @@ def options_of(words, description):
 
 
 def command_of(parser, options):
-    """Returns the words of a command line without the program, and without those that say which loads are run."""
+    """Returns the options of a command line as words. Leaves out the options of WHICH, and those with their default value."""
     words = []
     for action in parser._actions:
         value = getattr(options, action.dest, None)
@@ -121,7 +122,7 @@ def command_of(parser, options):
 
 
 def again(options, made, saved):
-    """Returns the command that runs a load or a trace alone."""
+    """Returns the command that runs a load or a trace alone. If `saved` names a file, the command runs the trace in it."""
     which = ['--trace', saved or made.name] if saved or isinstance(made.name, str) else [
         '--seed', str(options.seed), '--load', str(made.name)]
     return shlex.join([sys.argv[0], *options.given, *which, *options.command])

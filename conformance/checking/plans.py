@@ -22,7 +22,7 @@ GRANTS, RETURNS = 'grant 1', 'takeback 6 reset 1 grant 2 report 1 pool 1 move 1'
 CACHES = 'cache 12 destroy 1 take 3'
 # Commands that are refused or change no count, sent while a count is at an edge.
 HOLD = 'takeback 4 destroy 4 report 2 read 2 write 1 pool 1 reap 1'
-# Reports, with commands between them that are refused; the reports then have to be the same.
+# Reports, with commands between them that are mostly refused. Reports are the same if all between them is refused.
 QUIET = 'report 4 alloc 3 takeback 1 read 1'
 TAKE, GIVE, ALLOC, FREE = 'take 1', 'give 1', 'alloc 1', 'free 1'
 # Counts around the least that does not fit into a byte.
@@ -61,8 +61,8 @@ class Planner:
         return Sizes(*(drawn if fixed is None else fixed for fixed, drawn in zip(self.fixed, drawn)))
 
     def in_turn(self, choices, each):
-        """Returns one of the choices, each in its turn. One in `each` loads is of this kind, and the order of the choices depends
-        on the seed."""
+        """Returns one of the choices: the loads of a kind get them in turn. One load in `each` is of this kind. The order of the
+        choices depends on the seed."""
         shuffled = random.Random(f'{self.seed}').sample(choices, len(choices))
         return shuffled[self.number // each % len(choices)]
 
@@ -86,7 +86,7 @@ class Planner:
         return Plan(sizes, [Phase(200, ALL, everyone, self.orders(sizes)), *self.phases(sizes, everyone, 800)])
 
     def life(self, lines=5000):
-        """Returns a plan of many lines, so that one process of the program runs long."""
+        """Returns a plan of many lines, so that one process of the program runs for a long time."""
         sizes = self.machine([3, 3, 4, 5, 6], [2, 3, 4, 6, 12], [1, 2, 3, 4])
         return Plan(sizes, self.phases(sizes, list(range(sizes.tenants)), lines))
 
@@ -116,7 +116,7 @@ class Planner:
         return Plan(sizes, self.whole(sizes, owner, order, FILL_PAGES, self.around(EDGES_OF_COUNTS, noun, owner, order)))
 
     def whole(self, sizes, owner, order, fill, edges):
-        """Returns the phases of a tenant that gets all superblocks, runs the phases `edges`, fills the superblocks, and gives
+        """Returns phases in which one tenant gets all superblocks, sends the phases `edges`, fills the superblocks, and gives
         everything back."""
         blocks, every = sizes.superblocks << sizes.order - order, list(range(sizes.order + 1))
         most = 2 * blocks + 40
@@ -159,8 +159,8 @@ class Planner:
         return self.of_caches(sizes, owner, [self.cache(owner, few)] * 4, self.around(EDGES_OF_COUNTS, 'objects', owner))
 
     def one_cache(self):
-        """Returns a plan in which a number crosses 2^8: the objects of one slab, or the slabs of a cache with four objects in
-        each."""
+        """Returns a plan in which a number crosses 2^8: the objects of a cache, which may all fit into one slab, or the slabs of
+        a cache whose objects have the size of a frame."""
         size = self.in_turn([8, 16, 4096, 4096], 12)
         sizes = self.machine(*([8], [8]) if size == 4096 else ([3, 4, 6, 8], [2, 4, 8]), [1, 2])
         owner = [self.rng.randrange(sizes.tenants)]
@@ -219,7 +219,7 @@ class Planner:
         return Plan(sizes, phases)
 
     def longest(self):
-        """Returns a plan of 100,000 lines, with 2^16 objects or blocks."""
+        """Returns a plan of about 100,000 lines, with up to 2^16 objects or blocks at a time."""
         sizes = self.machine([MOST_ORDER], [MOST_SUPERBLOCKS], [1, 2, 3])
         owner = [self.rng.randrange(sizes.tenants)]
         if self.with_caches and self.rng.random() < 0.5:

@@ -9,8 +9,8 @@ from .plans import MOST_SUPERBLOCKS, MOST_TENANTS
 from .talk import Failure
 from .words import MOST_ORDER, counted, in_seconds, visible, words_of
 
-# How many lines of standard error are shown: the last ones, those that say what happened, and after each of these the first
-# frames of a stack.
+# How many lines of standard error are shown, at most: of the last lines, of the lines that say what happened, and of the stack
+# frames after each of these.
 MOST_LAST_LINES, MOST_TELLING, MOST_FRAMES = 5, 4, 3
 TELLING = re.compile(r'ERROR:|runtime error:|[Aa]ssertion|panicked at')
 FRAME = re.compile(r'\s*#\d+ |\s+\d+: ')
@@ -71,8 +71,8 @@ def last_words(errors):
 
 
 def said_of(finding, whole):
-    """Returns the finding as lines of text. If the program hung, they also say how the whole load failed, which may have been
-    given more time."""
+    """Returns the finding as lines of text. If the program hangs, they also say how it failed in the whole load, in which it may
+    have had more time for a reply. `whole` is the finding in the whole load."""
     if isinstance(finding, Breach):
         return [f'{finding.kind}: ' + (f'tenant {finding.tenant}: ' if finding.tenant is not None else '') + shown(finding.words)]
     again = f'; in the whole load {whole.words}' if finding.kind in ('hangs', 'stays') and finding != whole else ''
@@ -82,7 +82,8 @@ def said_of(finding, whole):
 
 
 def shown(words):
-    """Returns what partcheck printed as one line of ASCII. `..` stands for the ellipsis with which it cuts a long reply."""
+    """Returns the words of a broken promise as one line of ASCII. `..` replaces the ellipsis with which partcheck cuts a long
+    reply."""
     return ''.join(letter if ' ' <= letter <= '~' else '..' if letter == '\u2026' else visible(letter) for letter in words)
 
 

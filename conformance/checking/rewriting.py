@@ -8,11 +8,11 @@ from .families import families_of
 from .runs import POWERS, Places, name_in, names_in, tenant_of
 from .words import FRAME_BYTES, MOST_ORDER, is_number, told_in
 
-# Sizes that are tried instead of a cache's smaller one, and how many of its last objects are then kept.
+# Sizes of objects that are tried instead of a cache's smaller size, and how many of the cache's last objects are then kept.
 LARGER, LAST_KEPT = (4096, 2048, 1024, 512, 128, 32), (1, 2, 3, 4, 5, 6, 8, 9, 12, 16, 32)
-# If a cache has at most this many objects, no larger ones are tried.
+# If a cache has at most FEW_OBJECTS objects, no larger size is tried.
 FEW_OBJECTS = 3
-# The command whose reply gives a name of this kind.
+# For each kind of name, the command whose reply gives it.
 COMMANDS = {'frame': 'alloc', 'object': 'take', 'cache': 'cache'}
 
 

@@ -9,8 +9,8 @@ from .world import World
 
 # The most lines that are sent at once if none of them needs the reply to another.
 MOST_AT_ONCE = 256
-# If a wrong number has one of these distances from a name, it keeps the distance when the name changes. They are powers of two,
-# since these are sizes, and a program may cut numbers at a power of two.
+# If a wrong number has one of these distances from a name, it keeps the distance when the name changes. The distances are powers
+# of two, since blocks and slots have such sizes, and since a program may drop the high bits of a number.
 POWERS = [1 << power for power in range(32)]
 DISTANCES = [0, *reversed(POWERS), *(-power for power in POWERS)]
 
@@ -45,7 +45,7 @@ class Run:
                 self.rest = self.talk.end()
             except ProgramFailed as failed:
                 self.failure = failed.args[0]
-        # What is left of the talk cannot be sent to another process.
+        # A worker sends the run to the first process, but a talk cannot be sent to another process.
         self.slowest, self.talk = self.talk.slowest, None
         return self
 
@@ -64,7 +64,7 @@ class Run:
         return [line for line, replies in self.exchanges if is_own(tenant, line, replies)]
 
     def speakers(self):
-        """Returns the tenants that a line names."""
+        """Returns the tenants of the machine that some line names."""
         numbers = collections.Counter(tenant_of(line) for line, _ in self.exchanges)
         return [tenant for tenant in range(self.sizes.tenants) if numbers[str(tenant)]]
 
@@ -83,14 +83,13 @@ def has_done(replies):
 
 
 def tenant_of(line):
-    """Returns the word that names a line's tenant."""
+    """Returns the word that names a line's tenant, or an empty text if there is none."""
     words = line.split()
     return ''.join(words[2:3] if words[:1] == ['admin'] else words[:1])
 
 
 class Places:
-    """The blocks and objects that one run returned, by first place. With each comes a value, mostly its first place in another
-    run."""
+    """The blocks and objects that one run returned, by first place. Each has a value, mostly its first place in another run."""
 
     def __init__(self):
         self.begins, self.known = [], {}                        # first places, rising; by first place the size and the value
@@ -115,7 +114,7 @@ class Places:
         return behind if behind is not None and behind - place <= MOST_BYTES else None
 
     def now(self, place):
-        """Returns where a place is in the other run. It stays where it is if nothing is around it."""
+        """Returns where a place is in the other run. A place around which there is nothing stays the same."""
         begin = self.around(place)
         now = place if begin is None else self.known[begin][1] + place - begin
         return now if now >= 0 else place
@@ -216,8 +215,9 @@ def names_in(words):
 
 
 def replayed(programs, sizes, exchanges, order=None):
-    """Runs these lines again. With each comes its old reply, from a machine of this order. Names from the old replies are
-    replaced by those from the new ones. Lines are sent together until one needs a reply that is still missing."""
+    """Runs the lines of these exchanges again, on a machine of these sizes. Their old replies are from a machine of order
+    `order`, or of the same order if that is None. Names from the old replies are replaced by those from the new ones. Lines are
+    sent together until one needs a reply that is still missing."""
     before = sizes.order if order is None else order
     run, renamed, sent = Run(programs, sizes), collections.defaultdict(lambda: Renamed(before, sizes.order)), []
 

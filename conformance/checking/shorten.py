@@ -9,10 +9,11 @@ from .runs import has_done, tenant_of
 from .talk import SECONDS, Failure, Programs
 from .words import LEAST_ORDER, Sizes, counted, in_seconds, is_number, told_in
 
-# For how many seconds a load is shortened; and for how many if the program hangs, when each run that shows it takes the whole
-# wait.
+# For how many seconds a load is shortened; and for how many if the program hangs, since each run that shows this waits until the
+# time for a reply is over.
 SHORTENING, SHORTENING_OF_HANGING = 30, 4
-# While a failure is shortened, a reply may take this many times the longest wait before, and at least these seconds.
+# While a failure is shortened, a reply may take TIMES_SLOWEST times as long as the slowest reply of the whole load, but at least
+# LEAST_SECONDS and at most SECONDS.
 TIMES_SLOWEST, LEAST_SECONDS = 10, 0.2
 # Seconds that a reply may take when the shortened failure is run once more: a busy machine makes a program look as if it hung.
 SECONDS_AGAIN = 1
@@ -40,7 +41,7 @@ class Shortener:
         self.tried = set()
 
     def shorten(self):
-        """Shortens the case until no line and no pair of lines can be left out. Returns false if the deadline passed before."""
+        """Shortens the case until no line and no pair of lines can be left out. Returns false if the deadline passes first."""
         parts = FIRST_PARTS
         try:
             self.cut()
@@ -62,7 +63,7 @@ class Shortener:
             self.without_idle_lines()
             return
         if self.case.finding.line:
-            # What follows that line is not judged.
+            # partcheck does not judge the lines after that line.
             self.is_kept(range(self.case.finding.line))
         self.from_the_end()
 
@@ -85,8 +86,8 @@ class Shortener:
                 any(self.is_shown([change]) for change in changes_of(self.case.run))
 
     def change(self, changes_of, parts, less=0):
-        """Makes the changes after which the finding is still shown. Tries all of them at once, then halves, down to `parts`
-        parts. Returns whether a change was made. For each change the machine loses `less` superblocks."""
+        """Makes the changes after which the finding is still shown. Tries all of them at once, then in two parts, in four and so
+        on, up to `parts` parts. Returns whether a change was made. For each change the machine loses `less` superblocks."""
         changes, is_changed = list(changes_of(self.case.run)), False
         part = len(changes)
         while part and part * parts >= len(changes):
@@ -152,7 +153,8 @@ class Shortener:
             self.shows(self.case.run.sizes, lines, finding)
 
     def from_the_end(self):
-        """Tries to keep only the last lines, after the first grant or after all grants: first one line, then more and more."""
+        """Tries to keep only the last lines, and before them the first grant or all grants. Tries the last line alone, then four
+        times as many lines each time, up to half of all."""
         exchanges, last = self.case.run.exchanges, 1
         grants = [at for at, (line, replies) in enumerate(exchanges) if line.startswith('admin grant') and has_done(replies)]
         while last < len(exchanges) // 2:
@@ -162,7 +164,8 @@ class Shortener:
             last *= 4
 
     def without_idle_lines(self):
-        """Tries the first line alone. Then leaves out refused lines, and lines of other tenants than the last line's."""
+        """Tries to keep only the first line; then only the last line and those that were not refused; and then only the lines of
+        the last line's tenant."""
         self.is_kept([0])
         lines = self.case.run.exchanges
         self.is_kept([at for at, (_, replies) in enumerate(lines) if at + 1 == len(lines) or has_done(replies)])
@@ -183,7 +186,7 @@ def of_tenants(run):
 
 
 def kinds_of(run):
-    """Returns for each line the first word of its reply, or an empty text."""
+    """Returns for each line the first word of its reply after the tenant, or an empty text."""
     return [''.join(told_in(replies)[:1]) for _, replies in run.exchanges]
 
 

@@ -16,12 +16,12 @@ from .words import ending, in_seconds, words_of
 SECONDS = 5
 # For how many seconds standard error is still read after the program was killed.
 SECONDS_OF_ERRORS = 0.2
-# The most bytes that answer no line, at the end of a run; and the most bytes that may wait to be taken before. The replies to
-# lines that are sent at once are much shorter.
+# How many bytes that answer no line the program may print at the end of a run; and how many printed bytes may wait during the run
+# until they are taken as replies. The replies to lines that are sent at once are much shorter.
 MOST_UNASKED, MOST_WAITING = 1 << 16, 1 << 20
-# The kind of the failure of a program that prints more than that.
+# The kind of the failure of a program that prints more than one of these numbers of bytes.
 BABBLES = 'babbles'
-# The bytes of standard error that are kept: the first, with the words of a sanitizer or of a panic, and the last.
+# How many bytes of standard error are kept: of the first, with the words of a sanitizer or of a panic, and of the last.
 FIRST_ERRORS, LAST_ERRORS = 1 << 14, 1 << 12
 
 # A process group is faster than a session, to which Linux gives its own share of the processors.
@@ -29,15 +29,15 @@ GROUP_OF_ITS_OWN = {'process_group': 0} if sys.version_info >= (3, 11) else {'st
 
 
 class Failure(NamedTuple):
-    """How the program failed: the kind, which a shorter load has to show too, a description, and what it wrote to standard
-    error."""
+    """How the program failed: the kind of failure, which a shorter load has to show too, a description, and what the program
+    wrote to standard error."""
     kind: str
     words: str
     errors: str
 
 
 class ProgramFailed(Exception):
-    """The program failed in a run; it has a Failure."""
+    """Raised if the program fails in a run. Its argument is the Failure."""
 
 
 class CannotRun(Exception):
@@ -63,8 +63,8 @@ class Programs(NamedTuple):
 
 
 class Talk:
-    """A run of the program in its own process group. At its end all processes below this one are killed, so this process has one
-    run at a time."""
+    """A run of the program in its own process group. At the end of the run all descendants of this process are killed, so this
+    process can have only one run at a time."""
 
     def __init__(self, command, seconds):
         self.process = subprocess.Popen(command, stdin=subprocess.PIPE, stdout=subprocess.PIPE, stderr=subprocess.PIPE,
@@ -121,11 +121,12 @@ class Talk:
         return lines
 
     def rest(self):
-        """Returns what was printed and is not yet taken, as lines. The last one may have no end."""
+        """Returns what was printed and is not yet taken, as lines. The last one may be incomplete."""
         return self.taken(len(self.ready)) + ([self.held] if self.held else [])
 
     def end(self):
-        """Closes the program's input, and returns what it still prints. It has to exit with status 0 then."""
+        """Closes the program's input, and returns what the program still prints. Raises ProgramFailed if it does not exit with
+        status 0."""
         if self.unsent:
             raise self.failed('deaf', f'it answers without reading: line {self.answered} does not fit into the pipe any more')
         self.process.stdin.close()
@@ -141,8 +142,8 @@ class Talk:
         return ''.join(f'{line}\n' for line in self.taken(len(self.ready))) + self.held
 
     def hear(self, deadline):
-        """Reads what comes next on either output, and writes what is not sent. Returns false if nothing comes until the
-        deadline."""
+        """Reads what comes next on standard output or standard error, and writes lines that are not yet sent. Returns false if
+        nothing comes until the deadline."""
         left = deadline - time.monotonic()
         is_heard = False
         for number, _ in self.poll.poll(1000 * left if left > 0 else 0):
@@ -185,7 +186,8 @@ class Talk:
         return True
 
     def unanswered(self):
-        """Returns the failure of a program that no longer answers: it is silent, or has closed its output or its input."""
+        """Returns the failure of a program that no longer answers, as an exception. The program has ended, is silent, prints too
+        much, or has closed its output or its input."""
         line, is_silent = self.answered + 1, self.output in self.open
         if self.exits(time.monotonic() + (0 if is_silent else self.seconds)):
             self.finish()

@@ -35,7 +35,7 @@ def save(name, case, about):
 
 
 def files_of(name):
-    """Returns a list of the file alone, or of the folder's files, sorted by name."""
+    """Returns a list of the file `name` alone, or of the files in the folder `name`, sorted."""
     try:
         inside = sorted(os.listdir(name)) if os.path.isdir(name) else None
     except OSError as error:
@@ -75,12 +75,12 @@ def sizes_in(name, line):
     words = re.fullmatch(r'--order (\d{1,3}) --superblocks (\d{1,3}) --tenants (\d{1,3})\s*', line[len(MACHINE):], re.A)
     sizes = words and Sizes(*map(int, words.groups()))
     if not sizes or not all(least <= size <= most for size, (least, most) in zip(sizes, LIMITS)):
-        raise WrongTrace(f'{name} names no machine that there is: {line[:100]!r}')
+        raise WrongTrace(f'{name} names a machine that does not exist: {line[:100]!r}')
     return sizes
 
 
 def trace(options, name):
-    """Runs a kept trace and tests it: the promises, and Alone for every tenant."""
+    """Runs the trace in a file and tests it: the promises, and Alone for every tenant that a line names."""
     sizes, exchanges = read(name, Sizes(options.order, options.superblocks, options.tenants))
     judge = Judge(options, Programs(options.command))
     run = replayed(judge.programs, sizes, exchanges)

@@ -5,7 +5,7 @@ from typing import NamedTuple
 FRAME_SHIFT, LEAST_ORDER, MOST_ORDER, MOST_BYTES = 12, 3, 8, 64
 FRAME_BYTES = 1 << FRAME_SHIFT
 MOST_NUMBER = (1 << 32) - 1
-# How many characters of a text are shown.
+# How many characters of a text are shown, at most.
 MOST_SHOWN = 200
 
 
@@ -28,7 +28,7 @@ def in_seconds(seconds):
 
 
 def visible(text):
-    """Returns the text without control characters, and cut if it is long."""
+    """Returns the text, cut if it is long. Characters other than those of printable ASCII are escaped."""
     shown = ''.join(letter if ' ' <= letter <= '~' else escaped(letter) for letter in text[:MOST_SHOWN])
     return shown + (f' .. ({len(text)} bytes)' if len(text) > MOST_SHOWN else '')
 
@@ -55,7 +55,8 @@ def order_in(word):
 
 
 def told_in(replies):
-    """Returns the words of the first reply line without its tenant. Returns none if there is no reply, or if it has no tenant."""
+    """Returns the words of the first reply line after `T> ` or `admin> `. Returns none if there is no reply, or if it begins with
+    `!`."""
     return replies[0].partition('> ')[2].split() if replies and not replies[0].startswith('!') else []
 
 

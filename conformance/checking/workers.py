@@ -13,11 +13,11 @@ AHEAD = 16
 
 
 class Broken(Exception):
-    """A worker ended, or something failed in it that should not fail."""
+    """Raised if a worker ended, or if something failed in it that should not fail."""
 
 
 class Workers:
-    """A group of workers. It is a context manager; on exit it kills all processes below this one."""
+    """A group of workers. It is a context manager; on exit it kills all descendants of this process."""
 
     def __init__(self, work, count, note=str):
         self.work, self.count, self.note, self.pipes = work, count, note, []
@@ -38,8 +38,8 @@ class Workers:
             pipe.close()
 
     def serve(self, pipe):
-        """Does tasks until this worker is ended. A signal from a terminal reaches all workers, and does nothing there: the first
-        process ends them."""
+        """Does tasks until this worker is ended. SIGINT and SIGHUP, which a terminal sends to all processes, do nothing in a
+        worker: the first process ends the workers."""
         def end(*_):
             children.kill_all()
             os._exit(0)

@@ -9,7 +9,7 @@ LAST = 32
 
 
 class Bag:
-    """A map from numbers to what is known of them. It draws a random number in constant time."""
+    """A map from numbers to what is known of each. It draws a random one of its numbers in constant time."""
 
     def __init__(self):
         self.known, self.keys, self.at = {}, [], {}
@@ -50,7 +50,7 @@ class Cache(NamedTuple):
 class Tenant:
     def __init__(self):
         self.slots, self.pages = Bag(), Bag()                   # superblocks by slot, and orders by first frame
-        self.caches, self.objects = Bag(), Bag()                # caches by number, and their numbers by first place
+        self.caches, self.objects = Bag(), Bag()                # caches by number, and cache numbers by first place of an object
         self.freed, self.given = collections.deque(maxlen=LAST), collections.deque(maxlen=LAST)
         self.written = collections.deque(maxlen=LAST)           # places and lengths
         self.frames, self.last_cache = 0, 0
@@ -86,7 +86,7 @@ class World:
         self.tenants = [Tenant() for _ in range(sizes.tenants)]
         self.refused = collections.Counter()
         self.offsets = collections.deque(maxlen=LAST)           # offsets in a superblock at which some tenant wrote
-        self.most = collections.Counter()                       # the most that one tenant had at a time
+        self.most = collections.Counter()                       # by noun, such as `slots`: the most that one tenant had at a time
 
     def owed(self, line):
         """Returns how many lines the reply to a line has."""
