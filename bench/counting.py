@@ -1,10 +1,10 @@
-"""Counts instructions by callgrind, and reads and writes the files of numbers with which the counts are compared."""
+"""Counts instructions with callgrind, and reads and writes the files of numbers with which the counts are compared."""
 import os
 import re
 import subprocess
 
 COMMANDS = 'alloc free take give read write cache destroy reap report grant take_back move reset'.split()
-# Direct calls that are not events.
+# Direct calls for which there is no event.
 CALLS = 'lend lend_object lend_block find_object'.split()
 ROUNDS = 100
 # The C library has a memcpy and a memset for each kind of processor. With these settings it uses the same ones on all.
@@ -46,9 +46,9 @@ def callgrind(command, *options, out="/dev/null", tunables=TUNABLES, preload="")
 
 
 def of_calls(command, out, *options, toggle="measured", functions="measured", called=r".*", tunables=TUNABLES, preload=""):
-    """Returns how many instructions the calls from some functions to others take, with all that they call in turn. Only what runs
-    inside the function `toggle` counts. `functions` is a pattern for the names of the callers, `called` one for the names of the
-    called functions. callgrind gets `options`, and writes to the file `out`."""
+    """Returns the number of instructions that some functions take when others call them, including all that they call in turn.
+    `called` is a pattern for the names of the functions that are called, and `functions` one for the names of their callers. Only
+    what runs inside the function `toggle` counts. callgrind gets `options`, and writes to the file `out`."""
     own = ["--compress-strings=no", "--compress-pos=no", f"--toggle-collect={toggle}"]
     ran = callgrind(command, *own, *options, out=out, tunables=tunables, preload=preload)
     if ran.returncode:

@@ -4,15 +4,15 @@
  *
  * COMMAND is alloc, free, take, give, read, write, cache, destroy, reap, report, grant, take_back, move or reset. For `call` it
  * may also be lend, lend_object, lend_block or find_object. Only the command itself goes through `measured`, so that callgrind
- * counts it alone. It is undone by events or direct calls too, which are not counted. The machine has 32 superblocks of order 6
- * and 8 tenants. Tenant 0 has half of the superblocks, a page block in each, which was written to, and two caches with live
- * objects. A reset is of tenant 1, which has a superblock with a page block and a slab. If bench/floor.c is linked instead of the
- * library, only the direct calls alloc, free, take, give, read, write and lend work.
+ * counts it alone. The events or direct calls that prepare and undo it are not counted. The machine has 32 superblocks of order 6
+ * and 8 tenants. Tenant 0 has half of the superblocks, 16 page blocks of order 3 that were written to, and two caches with
+ * live objects. Only the command reset is for tenant 1, which has a superblock with a page block and a slab. If bench/floor.c is
+ * linked instead of the library, only the direct calls alloc, free, take, give, read, write, reap and lend work.
  *
  *     events new ORDER           the first write into each superblock, whose memory was never touched
  *     events again ORDER ROUNDS  the first write after a grant, into memory that was touched before
  *
- * `new` and `again` print the average page faults and nanoseconds of such a write. The machine has 32 superblocks of that order.
+ * `new` and `again` print the average page faults and nanoseconds of such a write. The machine has 32 superblocks of order ORDER.
  */
 #define _DEFAULT_SOURCE
 #include <stdio.h>
@@ -27,7 +27,7 @@ enum { LEND = 100, LEND_OBJECT, LEND_BLOCK, FIND_OBJECT }; /* direct calls that 
 enum { SUPERBLOCKS = 32, TENANTS = 8, SLOTS = SUPERBLOCKS / 2, SMALL = 96, LARGE = 2048, FRAME_BYTES = 4096 };
 
 static partmem_machine machine;
-static uint32_t tenant; /* the one that makes the commands */
+static uint32_t tenant; /* the tenant that makes the commands */
 static uint8_t buffer[PARTMEM_MOST_BYTES];
 static const uint8_t bytes[PARTMEM_MOST_BYTES];
 
@@ -120,7 +120,7 @@ static uint32_t set_up(void) {
     return frame;
 }
 
-/* Gives tenant 1 memory, and takes it back by a reset, which is counted. */
+/* Gives tenant 1 memory, and takes it back by a reset. Only the reset is counted. */
 static void reset_another(void) {
     tenant = 1;
     run(PARTMEM_GRANT, 0, 0);
@@ -130,7 +130,7 @@ static void reset_another(void) {
     measured(PARTMEM_RESET, 0, 0);
 }
 
-/* Runs a command once, counted. What prepares it and what undoes it is not counted. */
+/* Runs a command once, so that callgrind counts it. The calls that prepare and undo it are not counted. */
 static void run_round(const char *command, uint32_t frame) {
     if (!strcmp(command, "alloc")) {
         run(PARTMEM_FREE, measured(PARTMEM_ALLOC, 0, 0), 0);

@@ -3,10 +3,10 @@
  *
  * It follows docs/frames-and-blocks.md and docs/slabs.md as the library does: it chooses the same blocks and objects, tests the
  * same numbers in the same order, and keeps the same records in the frames. So each call returns the same status, numbers and
- * bytes, and bench/run checks that it does. These rules decide what a call has to do:
+ * bytes, and bench/run --library checks this. These rules decide what a call has to do:
  *
  *     tests    the machine, the tenant, the order or the cache, and whether a live block or object begins at the place
- *     alloc    the first of the least free blocks that are large enough; what is left of it stays free
+ *     alloc    the first of the smallest free blocks that are large enough; the part that is not needed stays free
  *     free     the block is joined with its buddies while they are free
  *     take     the first free object of the first partial slab, else of the first empty slab, else of a new one
  *     records  a bit for each object of a slab: in the last 32 bytes of its frame, or in a table if the objects are large
@@ -14,8 +14,8 @@
  *     moves    a slot may get another superblock, so each address is looked up by its slot
  *
  * Free blocks, partial slabs and empty slabs are marked by bits, and the first one is found by reading three words. There are no
- * lists. Each tenant has its own tables, as large as on the largest machine; a load touches only what it uses of them. Calls that
- * no load makes are missing.
+ * lists. Each tenant has its own tables, which are as large as the largest machine needs; a load touches only the parts that it
+ * uses. Calls that no load makes are missing.
  */
 #include <stdbool.h>
 #include <stdlib.h>
@@ -47,8 +47,8 @@ struct group {
     uint64_t empty[PARTMEM_MOST_CACHES];
 };
 
-/* Says which groups have a bit of one kind. `groups` has a bit for each group, and `words` one for each word of `groups` that is
- * not 0. */
+/* The groups in which a bit of one kind is 1. `groups` has a bit for each group, and `words` has a bit for each word of `groups`,
+ * which is 1 if the word is not 0. */
 struct summary {
     uint64_t words;
     uint64_t groups[MOST_GROUPS / 64];
@@ -67,7 +67,7 @@ struct cache {
     uint32_t size;    /* bytes of an object */
     uint32_t chunk;   /* bytes from an object to the next */
     uint32_t extent;  /* bytes of all chunks of a slab */
-    uint32_t inverse; /* 2^32 / chunk, rounded up: it is multiplied instead of dividing by chunk */
+    uint32_t inverse; /* 2^32 / chunk, rounded up: a product with it replaces a division by chunk */
     uint32_t objects; /* of a slab */
     uint32_t live;    /* live objects of all slabs: a cache with one must not be destroyed */
     uint8_t order;    /* of a slab */
@@ -100,7 +100,7 @@ struct machine {
 
 INLINE uint32_t lowest(uint64_t bits) { return (uint32_t)__builtin_ctzll(bits); }
 
-/* Sets the bit of a frame in a word of its group, and notes in the summary that the group has one. */
+/* Sets the bit of a frame in a word of its group, and notes in the summary that the group has a bit. */
 INLINE void add(struct summary *summary, uint64_t *word, uint32_t frame)
 {
     const uint32_t group = frame / GROUP;
@@ -156,8 +156,8 @@ INLINE bool is_free(const struct tenant *tenant, uint32_t order, uint32_t frame)
     return (tenant->group[frame / GROUP].free[order] >> frame % GROUP & 1) != 0;
 }
 
-/* Takes the first of the least free blocks that are large enough; there has to be one. Sets `*its` to its order, and returns its
- * first frame. */
+/* Takes the first of the smallest free blocks that have at least this order; there has to be one. Sets `*its` to the order of the
+ * whole block, and returns its first frame. */
 INLINE uint32_t take_free(struct tenant *tenant, uint32_t order, uint32_t *its)
 {
     *its = order + lowest(tenant->orders >> order);
@@ -169,7 +169,7 @@ INLINE uint32_t take_free(struct tenant *tenant, uint32_t order, uint32_t *its)
     return frame;
 }
 
-/* Splits a block of the order `its` until it has the order that was requested. */
+/* Splits a block of the order `its` until it has the order `order`, which was requested. The split-off halves become free. */
 INLINE void split(struct tenant *tenant, uint32_t frame, uint32_t its, uint32_t order)
 {
     while (its > order) {
@@ -189,7 +189,7 @@ APART partmem_status release_joined(const struct machine *machine, struct tenant
     return PARTMEM_DONE;
 }
 
-/* Frees a block, and joins it with its buddies. */
+/* Frees a block, and joins it with its buddies while they are free. */
 INLINE partmem_status release(const struct machine *machine, struct tenant *tenant, uint32_t frame)
 {
     const uint32_t order = tenant->frame[frame].taken - 1u;
@@ -214,7 +214,7 @@ INLINE uint64_t *record_of(const struct cache *cache, struct frame *slab, uint8_
     return cache->is_small ? (uint64_t *)(void *)(at + FRAME_BYTES - RECORD_BYTES) : &slab->record;
 }
 
-/* Returns the number of the object whose chunk contains the byte at `offset`, counted from the first object. */
+/* Returns the number of the object whose chunk contains the byte at `offset`. Offset 0 is the first byte of object 0. */
 INLINE uint32_t object_at(const struct cache *cache, uint32_t offset)
 {
     return (uint32_t)((uint64_t)offset * cache->inverse >> 32);
@@ -276,8 +276,8 @@ APART bool has_block_after_reap(const struct machine *machine, const struct tena
     return false;
 }
 
-/* Makes sure that a block of this order can be taken, by freeing all empty slabs if there is none without that. Returns false and
- * frees nothing if that would not help. */
+/* Makes sure that a block of this order can be taken: if there is none, frees all empty slabs. Returns false and frees nothing if
+ * there would be none even then. */
 APART bool make_block(const struct machine *machine, struct tenant *tenant, uint32_t order)
 {
     if (has_block(tenant, order)) return true;
@@ -343,7 +343,7 @@ RARE partmem_status refuse(partmem_lent *lent, partmem_status why)
 
 /* ---- Page blocks --------------------------------------------------------------------------------------------------------- */
 
-/* Does an alloc that found no free block. */
+/* Does an alloc that found no free block that is large enough. */
 APART partmem_status alloc_after_reap(partmem_tenant who, uint32_t order, partmem_lent *block)
 {
     struct machine *machine = who.machine->held[0];
@@ -351,7 +351,7 @@ APART partmem_status alloc_after_reap(partmem_tenant who, uint32_t order, partme
                                                                     : refuse(block, PARTMEM_NO_FRAMES);
 }
 
-/* Does the rest of an alloc if its block was larger, or lies in a slot that was not used before. */
+/* Does the rest of an alloc if its block was larger than requested, or lies in a slot that is not cleared yet. */
 APART partmem_status alloc_more(const struct machine *machine, struct tenant *tenant, uint32_t frame, uint32_t its,
                                 uint32_t order)
 {
@@ -389,7 +389,7 @@ partmem_status partmem_free(partmem_tenant who, uint32_t place)
 
 /* ---- Objects ------------------------------------------------------------------------------------------------------------- */
 
-/* Puts a slab into other sets after a take, if it was empty or has become full. */
+/* Moves a slab, after a take, from the empty slabs or to the full ones. It was empty before the take, or has become full. */
 APART partmem_status relist_taken(struct tenant *tenant, uint32_t number, uint32_t frame)
 {
     struct cache *cache = tenant->cache[number];
@@ -401,7 +401,7 @@ APART partmem_status relist_taken(struct tenant *tenant, uint32_t number, uint32
     return PARTMEM_DONE;
 }
 
-/* Puts a slab into other sets after a give, if it was full or has become empty. */
+/* Moves a slab, after a give, from the full slabs or to the empty ones. It was full before the give, or has become empty. */
 APART partmem_status relist_given(struct tenant *tenant, uint32_t number, uint32_t frame)
 {
     struct cache *cache = tenant->cache[number];
@@ -526,8 +526,8 @@ INLINE partmem_status lend(const struct machine *machine, struct tenant *tenant,
 
     if (offset > most || bytes > most - offset) return refuse(lent, PARTMEM_OUT_OF_REACH);
     *lent = (partmem_lent){address(machine, tenant, place / FRAME_BYTES) + place % FRAME_BYTES, place, (uint32_t)bytes};
-    /* Direct calls have cleared the slot before. The library needs this test all the same: an alloc by an event lends nothing,
-     * and so clears nothing. */
+    /* Here an earlier direct call has always cleared the slot. The test is here because the library needs it: an alloc by an
+     * event lends nothing, and so clears nothing. */
     const uint32_t slot = place / FRAME_BYTES >> machine->order;
     return tenant->is_cleared[slot] ? PARTMEM_DONE : clear_slot(machine, tenant, slot);
 }
@@ -665,7 +665,8 @@ partmem_status partmem_make_cache(partmem_tenant who, uint32_t size, uint32_t al
 
 /* ---- Missing functions --------------------------------------------------------------------------------------------------- */
 
-/* The programs of the benchmark are linked to these functions too, but with the floor they call none of them. */
+/* The programs of the benchmark contain calls of these functions too, so the linker needs them. If a program that is linked with
+ * the floor makes such a call, it aborts. */
 __attribute__((used)) static void is_missing(void) { abort(); }
 
 #define MISSING(name) __asm__(".globl " #name "\n.set " #name ", is_missing")

@@ -1,6 +1,6 @@
 /* Runs the requests of a recorded program with the heap of a tenant (partmem_heap.h), or with malloc and free.
  *
- *     heap heap|malloc LOG           prints how many requests and frees there are, and the nanoseconds of one
+ *     heap heap|malloc LOG           prints the number of requests and frees, and the average nanoseconds of one of them
  *     heap heap-used|malloc-used LOG stores all bytes, and prints the most bytes that were requested and not yet freed, and by
  *                                    how many bytes the process grew
  *
@@ -25,7 +25,7 @@
 #define CALLGRIND_START_INSTRUMENTATION
 #endif
 
-enum { ORDER = 8, SUPERBLOCKS = 64, FREED = 0xffffffff /* the bytes of a call that frees */ };
+enum { ORDER = 8, SUPERBLOCKS = 64, FREED = 0xffffffff /* `bytes` of a call that frees */ };
 
 /* A request or a free. `piece` is the number of the memory that it allocates or frees. */
 struct call {
@@ -53,7 +53,8 @@ static void *some(size_t bytes) {
 
 /* ---- The log ------------------------------------------------------------------------------------------------------------ */
 
-/* The live pieces by address: open addressing in a table whose size is a power of two. An entry has the piece's number plus 1. */
+/* The live pieces by address: open addressing in a table whose size is a power of two. An entry has the piece's number plus 1,
+ * or 0 if the piece was freed. */
 static struct entry {
     uint64_t at;
     size_t piece;
@@ -143,7 +144,7 @@ static double processor_time(void) {
     return (double)now.tv_sec + 1e-9 * (double)now.tv_nsec;
 }
 
-/* Returns a number of /proc/self/status, in bytes. It allocates nothing. */
+/* Returns a number of /proc/self/status, in bytes. Allocates nothing. */
 static size_t status(const char *name) {
     char text[4096];
     int file = open("/proc/self/status", O_RDONLY);

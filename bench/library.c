@@ -1,17 +1,18 @@
-/* Runs the lines of a trace with the static library, or with malloc and free, and prints the nanoseconds of a call.
+/* Runs the lines of a trace with the static library, or with malloc and free, and prints the average nanoseconds
+ * of a call.
  *
  *     library HOW ORDER SUPERBLOCKS TENANTS TRACE
  *     library answers ORDER SUPERBLOCKS TENANTS TRACE   writes what each direct call returns, a line each
  *     library --order=ORDER --superblocks=SUPERBLOCKS --tenants=TENANTS   writes the replies to lines, as `partmem` does
  *
  * HOW is `event` (partmem_event), `line` (partmem_line), `call` (the direct calls) or `malloc`. The calls are made in turn on a
- * machine that was just booted. Their arguments are made before, and their results are not used. `malloc` requests as many bytes
- * as each page block or object has, and leaves out lines that neither take nor give memory. It measures the allocator that is
- * linked or preloaded. After a malloc, and after a direct call that takes memory, the first byte is stored. With `call-used` and
+ * machine that was just booted. Their arguments are prepared before, and their results are not used. `malloc` requests as many
+ * bytes as each page block or object has, and leaves out lines that neither take nor give memory. It measures the allocator that
+ * is linked or preloaded. After a malloc, and after a direct call that takes memory, the first byte is stored. With `call-used` and
  * `malloc-used` all bytes of a block or an object are stored when it is taken, and loaded and checked before it is given back.
  *
- * If bench/floor.c is linked instead of the library, `call`, `call-used` and `answers` work. The lines of `answers` have to be
- * the same.
+ * If bench/floor.c is linked instead of the library, `call`, `call-used` and `answers` work. `answers` has to write the same
+ * lines with both.
  */
 #define _POSIX_C_SOURCE 200809L
 #include <inttypes.h>
@@ -22,7 +23,7 @@
 
 #include "partmem.h"
 
-/* Callgrind is slow, so it is started just before the calls if it is there. */
+/* Callgrind is slow, so it is started just before the calls if its header is installed. */
 #if __has_include(<valgrind/callgrind.h>)
 #include <valgrind/callgrind.h>
 #else
@@ -73,7 +74,7 @@ static size_t from_hex(const char *hex, uint8_t *bytes) {
     return count;
 }
 
-/* Reads the event from a line of a load. */
+/* Parses a line of a load into the event that it requests. */
 static void understand(struct call *call) {
     static const struct { const char *word; uint32_t kind; } kinds[] = {
         {"alloc", PARTMEM_ALLOC}, {"free", PARTMEM_FREE}, {"read", PARTMEM_READ},       {"write", PARTMEM_WRITE},
@@ -216,7 +217,7 @@ __attribute__((noinline)) static void run_lines(void) {
     }
 }
 
-/* Stores all bytes of what was taken if it is used, or else only the first. */
+/* Stores all bytes of the block or object that was taken if `is_used`, or else only its first byte. */
 static void store(uint8_t *at, const struct call *call, int is_used) {
     if (is_used) {
         memset(at, (uint8_t)call->block, call->size);
@@ -225,7 +226,7 @@ static void store(uint8_t *at, const struct call *call, int is_used) {
     }
 }
 
-/* Loads and checks all bytes of what is given back. */
+/* Loads and checks all bytes of the block or object that is given back. */
 static void load(const uint8_t *at, const struct call *call) {
     check(*at == (uint8_t)call->block && memcmp(at, at + 1, call->size - 1) == 0, "bytes are not as they were stored");
 }
@@ -279,8 +280,8 @@ static uint64_t sum(uint64_t before, const void *bytes, size_t count) {
     return before;
 }
 
-/* Adds to a hash what more calls about a place return: lends, some of them of too many bytes, and frees and gives that are
- * refused, since nothing begins at their place, or since it was already given back. */
+/* Makes more calls at a place, and adds to a hash what they return: lends, some of too many bytes; a free and a give that are
+ * refused since nothing begins at place + 4; and, if the call itself was a free or a give, the same call again. */
 static uint64_t sum_of_more(uint64_t before, const struct call *call, uint32_t place, uint32_t bytes) {
     const partmem_tenant tenant = {&machine, call->request.tenant};
     const struct { uint32_t place, bytes; } lends[] = {
@@ -302,7 +303,7 @@ static uint64_t sum_of_more(uint64_t before, const struct call *call, uint32_t p
 }
 
 /* Writes a line for each direct call: its kind, its status, the place that it names or takes, how many bytes it takes or gives
- * back, and a hash. The hash is of these bytes, of all else that the call returns, and of what more calls about the place
+ * back, and a hash. The hash is of these bytes, of all else that the call returns, and of what more calls at the place
  * return. */
 static void write_answers(uint8_t **blocks) {
     for (size_t i = 0; i < call_count; i++) {

@@ -1,11 +1,11 @@
 """The loads of the benchmark: what tenants request, one batch of lines after the other.
 
-A load never models the allocator. It talks to the program while the trace is made: later lines name the frames and places of its
-replies. So every line of a trace does something, and the trace can be run again at full speed.
+A load never models the allocator. It talks to the program while the trace is made: later lines name the frames and places of
+earlier replies. So a trace names blocks and objects that exist, and can be run again at full speed.
 """
 import random
 
-# Bytes of the objects of each cache of a tenant, by its number.
+# How many bytes an object of a tenant's cache has, by the number of the cache.
 SIZES = (16, 24, 64, 100, 256, 500, 1000, 2000, 3000)
 # The number of the cache whose objects have the size of a frame. Only `mixed` makes it, after the caches of SIZES.
 WHOLE = len(SIZES)
@@ -88,7 +88,7 @@ def scattered(draw, tenants):
 
 
 def transfers(draw, tenants):
-    """Reads or writes 1 to 64 bytes in live objects and blocks. In two of three lines the number is 1 or 64."""
+    """Reads or writes 1 to 64 bytes in live objects and blocks. In two of three lines it is 1 byte or 64."""
     for tenant in draw.choices(tenants, k=BATCH):
         if len(tenant.objects) < 20:
             yield take(tenant, draw.randrange(len(SIZES)))
@@ -123,7 +123,7 @@ FAULTS = ('frobnicate 1', '{} alloc', '{} allot 1', '{} free x', '{} write 0 0',
 
 
 def faulty(draw, tenants):
-    """Puts behind each line on blocks a line that is no command, or that is refused."""
+    """Puts behind each line of `pages` a line that is no command, or one that is refused."""
     for line in pages(draw, tenants):
         yield line
         tenant = draw.choice(tenants)
@@ -147,16 +147,16 @@ def object_of(held):
 
 LOADS = {'pages': pages, 'objects': objects, 'scattered': scattered, 'transfers': transfers, 'mixed': mixed, 'faulty': faulty,
          'administered': administered}
-# These loads are not run with other allocators, which have no calls like theirs.
+# bench/run --library leaves out these loads: malloc and free have nothing like their faulty lines and moves.
 LINES_ALONE = ('faulty', 'administered')
-# The blocks and objects of these loads are also used in place.
+# bench/run --library runs these loads a second time, and then stores and loads all bytes of their blocks and objects.
 USED = ('pages', 'objects')
 
 
 def make(name, ask, lines, order, superblocks, tenants, seed=1):
     """Returns all lines of a load. `ask` runs some lines and returns the replies, one for each line."""
     draw = random.Random(f'{name} {seed}')
-    # One superblock is left without owner, so that slots can be moved to it.
+    # One superblock is left without an owner, so that slots can be moved to it.
     granted = superblocks - 1 if name == 'administered' else superblocks
     made = grants(granted, tenants) + caches(draw, tenants)
     if name == 'mixed':

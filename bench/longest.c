@@ -15,7 +15,7 @@
 
 #include "partmem.h"
 
-/* Callgrind is slow, so it is started just before a call if it is there. */
+/* Callgrind is slow, so it is started just before a call if its header is installed. */
 #if __has_include(<valgrind/callgrind.h>)
 #include <valgrind/callgrind.h>
 #else
@@ -78,7 +78,7 @@ static void empty_all(void)
     for (uint32_t i = 0; i < place_count; i++) must(partmem_give(me, 0, places[i]));
 }
 
-/* Makes SOME empty slabs of 32 KiB, or fewer if they do not fit. */
+/* Makes SOME empty slabs of 32 KiB, or as many as fit if these are fewer. */
 static void empty_some(void)
 {
     partmem_cache made;
@@ -128,7 +128,7 @@ static void grant_again(void)
     must(partmem_grant(me, &slot));
 }
 
-/* Leaves one superblock free, and makes a cache with a live object, and a page block, which is `lent`. */
+/* Leaves one superblock without an owner, makes a cache with a live object, and allocates a page block, which becomes `lent`. */
 static void hold_some(void)
 {
     grant_all_but(1);
@@ -151,7 +151,7 @@ static partmem_status reap(void)
     return partmem_reap(me, &frames);
 }
 
-/* Makes each call once that has no case of its own, except the end, events and lines. They also need a take and an alloc. */
+/* Makes 16 calls that have no case of their own, and also a take and an alloc. */
 static partmem_status others(void)
 {
     static uint8_t bytes[PARTMEM_MOST_BYTES];

@@ -33,7 +33,7 @@ class Standing:
 
 
 def no_room_around_slabs(standing, order, superblocks):
-    """Requests a block of the greatest order. Each superblock has an empty slab of every cache, free frames and a taken one."""
+    """Requests a block of the greatest order. Each superblock has an empty slab of every cache, free frames and a taken frame."""
     frames = 1 << order
     some = min(CACHES, frames - 1)
     standing.run(grants(superblocks) + [cache(4096)] * CACHES)
@@ -46,7 +46,7 @@ def no_room_around_slabs(standing, order, superblocks):
 
 
 def no_frame(standing, order, superblocks):
-    """Requests a frame. All are taken, and no slab is empty."""
+    """Requests a frame. All frames are taken, and no slab is empty."""
     standing.run(grants(superblocks) + [f'0 alloc {order}'] * superblocks)
     return ['0 alloc 0']
 
@@ -58,13 +58,13 @@ def middle_of_full_slabs(standing, order, superblocks):
 
 
 def last_frame(standing, order, superblocks):
-    """Frees and allocates the last frame of the last slot. All others are taken."""
+    """Frees and allocates the last frame of the last slot. All other frames are taken."""
     standing.run(grants(superblocks) + ['0 alloc 0'] * (superblocks << order))
     return [f'0 free {(superblocks << order) - 1}', '0 alloc 0']
 
 
 def last_superblock(standing, order, superblocks):
-    """Allocates and frees a frame of the last slot, which is free as a whole. All others are taken."""
+    """Allocates and frees a frame of the last slot, in which nothing else is taken. All other slots are full."""
     standing.run(grants(superblocks) + [f'0 alloc {order}'] * (superblocks - 1))
     return ['0 alloc 0', f'0 free {superblocks - 1 << order}']
 
