@@ -13,14 +13,14 @@ BATCH = 256
 
 
 class Tenant:
-    """What a tenant holds, as far as the replies said."""
+    """What a tenant holds, according to the replies."""
 
     def __init__(self, number, slots, order):
         self.number, self.slots, self.frames = number, slots, slots << order
         self.blocks, self.objects, self.used = [], [], 0
 
     def drop(self, held, draw):
-        """Removes and returns a random one of the things held."""
+        """Removes a random item of the list `held`, and returns it."""
         at = draw.randrange(len(held))
         held[at], held[-1] = held[-1], held[at]
         return held.pop()
@@ -88,7 +88,7 @@ def scattered(draw, tenants):
 
 
 def transfers(draw, tenants):
-    """Reads or writes 1 to 64 bytes in live objects and blocks. In two of three lines it is 1 byte or 64."""
+    """Reads or writes 1 to 64 bytes in live objects and blocks. Two of three reads and writes are of 1 byte or of 64."""
     for tenant in draw.choices(tenants, k=BATCH):
         if len(tenant.objects) < 20:
             yield take(tenant, draw.randrange(len(SIZES)))
@@ -131,7 +131,7 @@ def faulty(draw, tenants):
 
 
 def administered(draw, tenants):
-    """Moves a slot of a tenant in every eighth line."""
+    """Moves a slot of a tenant in every eighth line. The other lines are those of `pages`."""
     holders = [tenant for tenant in tenants if tenant.slots]
     for at, line in enumerate(pages(draw, tenants)):
         yield line

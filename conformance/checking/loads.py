@@ -85,8 +85,8 @@ def say_phase(run, maker, phase, at_once):
 
 
 def most_lines(world, phase):
-    """Returns how many lines of a phase may be sent at once without passing its goal; 0 if the goal is reached, or if the phase
-    ends when nothing is held and nothing is held."""
+    """Returns how many lines of a phase may be sent at once without passing its goal. Returns 0 if the goal is reached, or if
+    nothing is held and the phase is to last until everything is empty."""
     tenants, most = [world.tenants[tenant] for tenant in phase.tenants], phase.lines
     if phase.until == 'empty' and not any(tenant.held() for tenant in tenants):
         return 0

@@ -57,7 +57,7 @@ def parser_of(description):
                     epilog=EXITS, formatter_class=argparse.RawDescriptionHelpFormatter, add_help=False)
     add = parser.add_argument
     add('program', metavar='PROGRAM', help='the program to test: a file, or a command of PATH')
-    add('arguments', metavar='ARGUMENT', nargs=argparse.REMAINDER, help='words that PROGRAM is given first').required = False
+    add('arguments', metavar='ARGUMENT', nargs=argparse.REMAINDER, help='the first words after PROGRAM on its command line').required = False
     add('--pages', action='store_true', help=f'leave out caches, the commands {", ".join(OF_CACHES)}')
     add('--without', action='append', default=[], metavar='COMMAND', choices=OF_TENANT,
         help=f'leave out a command of tenants: {", ".join(OF_TENANT)}; can be given more than once')
@@ -80,7 +80,7 @@ def add_loads(add):
     add('--load', type=number(int, 0), metavar='N', help='run the load of this number alone')
     add('--long', action='store_true', help='loads of 100,000 lines, half of them with 65,536 blocks or objects')
     add('--trace', action='append', metavar='FILE',
-        help='run no loads but this trace, or all of a folder; can be given more than once')
+        help='run this trace, or all traces of a folder, and no loads; can be given more than once')
     add('--save', metavar='FILE', help='write the shortened trace of a load that breaks a promise or fails, for --trace')
     add('--jobs', type=number(int, 1, MOST_JOBS), default=min(os.cpu_count() or 1, MOST_JOBS), metavar='J',
         help=f'how many loads are run at a time, 1 to {MOST_JOBS} (default: one for each processor)')

@@ -22,7 +22,7 @@ GRANTS, RETURNS = 'grant 1', 'takeback 6 reset 1 grant 2 report 1 pool 1 move 1'
 CACHES = 'cache 12 destroy 1 take 3'
 # Commands that are refused or change no count, sent while a count is at an edge.
 HOLD = 'takeback 4 destroy 4 report 2 read 2 write 1 pool 1 reap 1'
-# Reports, with commands between them that are mostly refused. Reports are the same if all between them is refused.
+# Reports, with mostly refused commands between them. Two reports have to be the same if all commands between them are refused.
 QUIET = 'report 4 alloc 3 takeback 1 read 1'
 TAKE, GIVE, ALLOC, FREE = 'take 1', 'give 1', 'alloc 1', 'free 1'
 # Counts around the least that does not fit into a byte.

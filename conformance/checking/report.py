@@ -88,8 +88,7 @@ def shown(words):
 
 
 def report_of(name, case, whole=None):
-    """Returns the lines that report the shortened load or trace of this name. `whole` is the finding in the whole
-    load."""
+    """Returns the lines that report the shortened load or trace of this name. `whole` is the finding in the whole load."""
     count, is_failure = len(case.run.exchanges), isinstance(case.finding, Failure)
     name = f'load {name}' if isinstance(name, int) else f'trace {visible(name)}'
     lines = [f'{name} {"makes the program fail" if is_failure else "breaks a promise"}; {counted(count, "line")} '

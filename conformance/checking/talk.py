@@ -21,7 +21,7 @@ SECONDS_OF_ERRORS = 0.2
 MOST_UNASKED, MOST_WAITING = 1 << 16, 1 << 20
 # The kind of the failure of a program that prints more than one of these numbers of bytes.
 BABBLES = 'babbles'
-# How many bytes of standard error are kept: of the first, with the words of a sanitizer or of a panic, and of the last.
+# How many bytes of standard error are kept: at its beginning, with the words of a sanitizer or of a panic, and at its end.
 FIRST_ERRORS, LAST_ERRORS = 1 << 14, 1 << 12
 
 # A process group is faster than a session, to which Linux gives its own share of the processors.
@@ -41,7 +41,7 @@ class ProgramFailed(Exception):
 
 
 class CannotRun(Exception):
-    """The program cannot be started."""
+    """Raised if the program cannot be started."""
 
 
 def on_this_machine(seconds):

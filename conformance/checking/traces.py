@@ -15,7 +15,7 @@ LIMITS = Sizes((3, 8), (1, 256), (1, 64))
 
 
 class WrongTrace(Exception):
-    """A trace that cannot be read, or that does not name its machine."""
+    """Raised if a trace cannot be read or written, or does not name its machine."""
 
 
 def text_of(case, about):

@@ -94,4 +94,4 @@ class Workers:
         try:
             return pipe.recv()
         except (EOFError, OSError):
-            raise Broken('a process of its own ended; is there enough memory?') from None
+            raise Broken('a worker process ended; is there enough memory?') from None
