@@ -389,7 +389,7 @@ partmem_status partmem_free(partmem_tenant who, uint32_t place)
 
 /* ---- Objects ------------------------------------------------------------------------------------------------------------- */
 
-/* Moves a slab, after a take, from the empty slabs or to the full ones. It was empty before the take, or has become full. */
+/* Updates the sets of empty and partial slabs after a take from a slab that was empty before, or that has become full. */
 APART partmem_status relist_taken(struct tenant *tenant, uint32_t number, uint32_t frame)
 {
     struct cache *cache = tenant->cache[number];
@@ -401,7 +401,7 @@ APART partmem_status relist_taken(struct tenant *tenant, uint32_t number, uint32
     return PARTMEM_DONE;
 }
 
-/* Moves a slab, after a give, from the full slabs or to the empty ones. It was full before the give, or has become empty. */
+/* Updates the sets of empty and partial slabs after a give to a slab that was full before, or that has become empty. */
 APART partmem_status relist_given(struct tenant *tenant, uint32_t number, uint32_t frame)
 {
     struct cache *cache = tenant->cache[number];

@@ -57,7 +57,7 @@ def parser_of(description):
                     epilog=EXITS, formatter_class=argparse.RawDescriptionHelpFormatter, add_help=False)
     add = parser.add_argument
     add('program', metavar='PROGRAM', help='the program to test: a file, or a command of PATH')
-    add('arguments', metavar='ARGUMENT', nargs=argparse.REMAINDER, help='the first words after PROGRAM on its command line').required = False
+    add('arguments', metavar='ARGUMENT', nargs=argparse.REMAINDER, help='the first arguments of PROGRAM').required = False
     add('--pages', action='store_true', help=f'leave out caches, the commands {", ".join(OF_CACHES)}')
     add('--without', action='append', default=[], metavar='COMMAND', choices=OF_TENANT,
         help=f'leave out a command of tenants: {", ".join(OF_TENANT)}; can be given more than once')
