@@ -5,11 +5,11 @@
  *     library --order=ORDER --superblocks=SUPERBLOCKS --tenants=TENANTS   writes the replies to lines, as `partmem` does
  *
  * HOW is `event` (partmem_event), `line` (partmem_line), `call` (the direct calls) or `malloc`. The calls are made in turn on a
- * machine that was just booted. Their arguments are prepared before, and their results are not used. With `malloc` each page block
- * or object becomes a malloc of as many bytes, and lines that neither take nor give memory are left out. This measures the
- * allocator that is linked or preloaded. After a malloc, and after a direct call that takes memory, the first byte is stored. With
- * `call-used` and `malloc-used` all bytes of a block or an object are stored when it is taken, and loaded and checked before it is
- * given back.
+ * machine that was just booted. Their arguments are prepared before, and their results are not used. With `malloc` each page
+ * block or object becomes a malloc of as many bytes, and lines that neither take nor give memory are left out. This measures the
+ * allocator that is linked or preloaded. After a malloc, and after a direct call that takes memory, the first byte is stored.
+ * With `call-used` and `malloc-used` all bytes of a block or an object are stored when it is taken, and loaded and checked before
+ * it is given back.
  *
  * If bench/floor.c is linked instead of the library, `call`, `call-used` and `answers` work. `answers` has to write the same
  * lines with both.
