@@ -135,12 +135,12 @@ IS(&partmem_heap_free, partmem_status (*)(partmem_heap *, void *));
 IS(&partmem_heap_usable_size, size_t (*)(const partmem_heap *, const void *));
 IS(&partmem_heap_place, uint32_t (*)(const partmem_heap *, const void *));
 
-/* Sizes are constants of type size_t. */
+/* The sizes of the RAM and of the tables are constants of type size_t. */
 IS(PARTMEM_RAM_BYTES(8u, 256u), size_t);
 IS(PARTMEM_TABLE_BYTES(8u, 256u, 64u), size_t);
 _Static_assert(PARTMEM_RAM_BYTES(8, 256) == 256 << 20 && PARTMEM_TABLE_BYTES(8, 256, 64) < 5 << 20, "another size");
 
-/* Enums have 32 bits. The replies to a line are at most 257 rows, one for each superblock and one before them. A read returns at
- * most 64 bytes. */
+/* Enums have 32 bits. The longest reply to a line is the one to `admin pool`: a first line, and a line for each of at most 256
+ * superblocks. A read returns at most 64 bytes. */
 _Static_assert(sizeof(partmem_status) == 4 && sizeof(partmem_use) == 4, "another enum");
 _Static_assert(PARTMEM_MOST_TEXT_BYTES == 257 * 256 && PARTMEM_MOST_BYTES == 64, "another buffer");

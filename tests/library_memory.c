@@ -1,14 +1,17 @@
-/* Checks what the library for C does with memory. Link it with a program and the library, and with the linker's --wrap for each
- * function __wrap_NAME, OTHER(NAME, ..) and RETURNING(.., NAME, ..) below, so that calls of NAME go through it. A block is memory
- * that the C library allocates, or that the kernel allocates in the RAM or the tables.
+/* Checks what the library for C does with memory. Link this file with a program and the library. Give the linker --wrap=NAME for
+ * each __wrap_NAME, OTHER(NAME, ..) and RETURNING(.., NAME, ..) below, so that calls of NAME come here. A block is memory that
+ * the C library allocates, or that the kernel allocates in the RAM or the tables.
  *
- * It ends the process with status 70 if
- * - the library allocates or frees a block in a call other than a boot or an end;
- * - a boot that is done takes no block, or a boot that is not done keeps one;
+ * The process ends with status 70 if
+ * - the library allocates a block outside of a boot, or frees one outside of a boot and an end;
+ * - a boot returns DONE and has taken no block, or returns something else and keeps one;
  * - a boot returns NO_MEMORY although no allocation was refused, or something else although one was;
- * - an end frees more blocks or fewer than the boot of that machine took, or allocates one;
- * - a block is held when the program ends.
- * Otherwise it prints the numbers of calls and blocks on standard error. What the program itself does with memory is not counted.
+ * - the RAM or the tables have no space for an allocation that is not refused;
+ * - an end returns DONE and has not freed as many blocks as the boot of its machine took, or returns something else and has freed
+ *   one;
+ * - more than MOST_MACHINES machines are booted at the same time, or a block is held when the program ends.
+ * Otherwise the numbers of calls and blocks are printed on standard error. What the program itself does with memory is not
+ * counted.
  */
 #include <stdbool.h>
 #include <stdint.h>
@@ -38,7 +41,8 @@ static void hold(bool holds, const char *what)
     _exit(70);
 }
 
-/* Returns where the blocks of `machine` are counted, and makes this the count of `from_now_on`. NULL is no machine. */
+/* Returns a pointer to the number of blocks in the entry of `machine`, and makes this the entry of `from_now_on`. NULL as
+ * `machine` means an unused entry, and NULL as `from_now_on` makes the entry unused. */
 static long *blocks_of(const partmem_machine *machine, const partmem_machine *from_now_on)
 {
     int i = 0;
@@ -91,7 +95,7 @@ void __wrap_free(void *block)
     __real_free(block);
 }
 
-/* The functions by which the kernel allocates, in memory.c. */
+/* The functions of memory.c by which the kernel allocates. */
 struct allocation {
     bool is_done;
     void *at;
@@ -135,7 +139,7 @@ static partmem_status count_boot(partmem_machine *machine, partmem_status status
     return status;
 }
 
-/* partmem_boot calls it too, as a part of its boot. */
+/* partmem_boot calls this function too. That call is a part of its boot, and is not counted as another one. */
 partmem_status __real_partmem_boot_in(partmem_machine *machine, const partmem_config *config, const partmem_memory *memory);
 partmem_status __wrap_partmem_boot_in(partmem_machine *machine, const partmem_config *config, const partmem_memory *memory)
 {
@@ -168,7 +172,7 @@ partmem_status __wrap_partmem_end(partmem_machine *machine)
     return status;
 }
 
-/* All other functions. One of them may call another. */
+/* The other functions that are counted. One of them may call another, so each restores `place`. */
 #define OTHER(name, parameters, arguments) RETURNING(partmem_status, name, parameters, arguments)
 #define RETURNING(type, name, parameters, arguments) \
     type __real_##name parameters;                   \

@@ -2,10 +2,11 @@
 #ifndef LIBRARY_MEMORY_H
 #define LIBRARY_MEMORY_H
 
-/* The number of the allocation that is refused: 1 for the next one, 0 for none. */
+/* Which allocation of the library is refused: 1 for the next one, 2 for the one after it, 0 for none. Each allocation reduces a
+ * number above 0 by 1. */
 extern long refused_allocation;
 
-/* How many blocks the library holds. */
+/* The number of blocks that the library holds now. */
 extern long blocks_held;
 
 #endif

@@ -1,4 +1,5 @@
-/* Allocates memory in each way that machines/malloc_log.c logs, in sizes that nothing else requests, and is then killed. */
+/* Allocates memory by each function that machines/malloc_log.c logs, except memalign and valloc, in sizes that nothing else
+ * requests. Then it kills itself. */
 #define _GNU_SOURCE
 #include <pthread.h>
 #include <signal.h>
@@ -39,7 +40,7 @@ int main(int words, char **unused)
         return 2;
     free(at);
 
-    /* A child has a log of its own, and so has the program that it becomes. */
+    /* The child has its own log, and the program that it becomes by exec has another one. */
     pid_t child = fork();
     if (child == 0) {
         free(malloc(1801));
@@ -52,8 +53,8 @@ int main(int words, char **unused)
         return 4;
     free(passed);
 
-    /* Writes more than a window of the log, after all files are closed and the folder has changed. The process is killed at last,
-     * so its end cannot be logged. */
+    /* Fills more than a window of the log, after all files are closed and the folder has changed. At last the process kills
+     * itself, so that no code of the library runs at its end. */
     for (int file = 3; file < 1024; file++)
         close(file);
     if (chdir("/"))

@@ -10,7 +10,7 @@ MOST_LINE, MOST_NUMBER, MOST_BYTES, MOST_PATTERN, MOST_SIZE, MOST_CACHES = 255, 
 ALIGNMENTS = [8, 16, 32, 64, 128, 256]
 REFUSALS = ["NoFrames", "BadOrder", "NotABlock", "OutOfReach", "BadLength", "BadSize", "BadAlign", "NoCacheSlot", "NoCache"]
 REFUSALS += ["CacheInUse", "NotAnObject", "NoTenant", "PoolEmpty", "NoSlot", "SlotBusy"]
-# The commands of each actor, with the forms of their arguments: a number, or bytes in hex, at most this many.
+# The commands of each actor, with the form of each argument: NUMBER, or the most bytes that its hex digits may give.
 NUMBER = 0
 ADMINISTRATOR = {"grant": [NUMBER], "takeback": [NUMBER, NUMBER], "reset": [NUMBER], "move": [NUMBER, NUMBER], "pool": []}
 TENANT = {"alloc": [NUMBER], "free": [NUMBER], "read": [NUMBER, NUMBER], "write": [NUMBER, MOST_BYTES]}
@@ -19,11 +19,11 @@ TENANT |= {"reap": [], "report": []}
 
 
 class Fault(Exception):
-    """What is wrong with a line."""
+    """A faulty line, with the name of the fault."""
 
 
 class Refused(Exception):
-    """Why a command is refused. Nothing is changed before it is raised."""
+    """A refused command, with the name of the refusal. Nothing is changed before it is raised."""
 
 
 def number_of(word):
@@ -60,7 +60,7 @@ def command_of(line):
 
 
 class Cache:
-    """A cache, and how its slabs are cut."""
+    """A cache, with the layout of its slabs and the number of slabs that it has made."""
 
     def __init__(self, size, align, pattern):
         self.size, self.align, self.made = size, align, 0
@@ -75,7 +75,7 @@ class Cache:
 
 
 class Slab:
-    """A slab of a cache: the places of its objects in order, and of those that are live."""
+    """A slab of a cache: the places of its objects in ascending order, and the set of the places of live objects."""
 
     def __init__(self, number, cache, first):
         begin = FRAME_BYTES * first + cache.align * (cache.made % cache.colours)
@@ -90,7 +90,8 @@ class Slab:
 
 
 class Tenant:
-    """A private machine: the bytes of its held slots, the orders of its page blocks and its slabs by first frame, its caches."""
+    """A tenant's private machine: the bytes of each slot that it holds, the order of each page block by its first frame, each
+    slab by its first frame, and each cache by its number."""
 
     def __init__(self, order):
         self.order, self.slots, self.pages, self.slabs, self.caches = order, {}, {}, {}, {}
@@ -108,7 +109,7 @@ class Tenant:
         return frames
 
     def free_blocks(self, also=()):
-        """Returns the order and first frame of each free block. Frames of the kinds `also` count as free."""
+        """Returns the order and first frame of each free block. Frames whose kind is in `also` count as free too."""
         taken = {frame for frame, kind in self.kinds().items() if kind not in ("free", *also)}
         found = []
 
@@ -124,8 +125,8 @@ class Tenant:
         return found
 
     def choose(self, order):
-        """Returns the first frame of the block that a request of this order gets. If there is none, all empty slabs are freed
-        first."""
+        """Returns the first frame of the block that a request of this order gets. If no free block is large enough, but one would
+        be without the empty slabs, frees all empty slabs first."""
         for also in (), ("empty",):
             fitting = [block for block in self.free_blocks(also) if block[0] >= order]
             if fitting:
@@ -253,7 +254,8 @@ class Tenant:
 
 
 class Machine:
-    """The machine of all tenants: the owner of each superblock (a tenant and its slot), and each tenant's private machine."""
+    """The machine of all tenants: the owner of each superblock (a tenant and its slot, or None), and each tenant's private
+    machine."""
 
     def __init__(self, order, superblocks, tenants):
         self.order, self.owners = order, [None] * superblocks
