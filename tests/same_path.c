@@ -1,25 +1,27 @@
 /* Runs a trace through the library for C, and follows marked commands, instruction by instruction.
  *
  * same_path ORDER SUPERBLOCKS TENANTS talk         runs the lines of standard input; writes the reply to each, and a line "."
- * same_path ORDER SUPERBLOCKS TENANTS step [N]     runs a trace from standard input; writes a row for each marked command, or all
- *                                                  steps of marked command N
+ * same_path ORDER SUPERBLOCKS TENANTS step [N]     runs a trace from standard input; writes a row for each marked command, or
+ * only
+ *                                                  a row for each step of the marked command with number N
  *
- * A row of a trace begins with '.' for a line that is run at full speed, with '+' for a line that is followed, and with '=' for
- * an event that is followed: its kind, tenant, first and second number and the hex of its bytes. '@' makes this a direct call,
- * with a lend before it if it frees, reads or gives back. With '*', '#' and '&' instead, the command is followed into the C
- * library too. A row of the output has the number of steps of a command, a hash of the addresses of its instructions, a hash of
- * what they read and wrote, and a hash of the results.
+ * A row of a trace is not marked if it begins with '.': its line is run at full speed. The marks of commands that are followed
+ * are '+' for a line, and '=' for an event: its kind, tenant, first and second number and the hex of its bytes. '@' has the same
+ * numbers for a direct call, with a lend before it if it frees, reads or gives back. '*', '#' and '&' are like '+', '=' and '@',
+ * but the command is followed into the C library too. A row of the output has the number of steps of a command, a hash of the
+ * addresses of its instructions, a hash of the places that they read and wrote, and a hash of the results. The row of a step has
+ * the address of the instruction and the hash of the places.
  *
- * The processor traps after each instruction while its trap flag is set, and the handler of that signal sees all registers.
- * So no other process has to be traced: this takes a fourth of the time of ptrace, and no permission. The program turns address
- * randomisation off. Link it statically, so that each instruction has the same address in every run.
+ * The processor traps after each instruction while its trap flag is set, and the handler of that signal sees all registers. So
+ * the program follows itself, which takes a fourth of the time of ptrace and needs no permission to trace. The program turns
+ * address randomisation off. Link it statically, so that each instruction has the same address in every run.
  *
  * The file "operands", if there is one in the working folder, has the memory operand of each instruction (as tests/same-path reads
- * them from a disassembly). For an access to a block that boot took, the block's size (one more for a superblock) and the offset
- * in it are hashed. If the size is a multiple of the number of superblocks (for a block that grew in boot, of the next power of
- * two), the block has a part for each superblock, and the offset in the part is hashed. Blocks and parts are numbered in each
- * command in the order of their first access, so equal hashes mean equal accesses except for the numbers of superblocks. For
- * other accesses the address is hashed.
+ * them from a disassembly). A block that boot took has one part for each superblock if its size is a multiple of the number of
+ * superblocks; for a block that grew in boot, this number is rounded up to a power of two. Any other block is a single part. The
+ * hash of an access to a block is made of the block's size (one more for a superblock), the number of the part, and the offset in
+ * the part. In each command, parts are numbered in the order of their first access. So equal hashes mean equal accesses, except
+ * for the numbers of superblocks. The hash of any other access is made of its address.
  */
 #define _GNU_SOURCE /* registers by name */
 #include <fcntl.h>
@@ -211,8 +213,8 @@ static void catch_traps(void)
 #define FOLLOW() __asm__ volatile("pushfq\n\torq $0x100, (%%rsp)\n\tpopfq" ::: "memory", "cc")
 #define LET_GO() __asm__ volatile("pushfq\n\tandq $~0x100, (%%rsp)\n\tpopfq" ::: "memory", "cc")
 
-/* Whether memcpy, memmove and memset are not followed. Then the length is hashed, and where the call begins to write and to read:
- * for the path the place within 64 bytes, and for the accesses the place in its block. */
+/* Whether memcpy, memmove and memset run at full speed. If so, each call is one step. The length and the two addresses modulo 64
+ * are a part of the path's hash, and the two addresses, as places in their blocks, are a part of the hash of the accesses. */
 static bool is_apart;
 
 static void tell_apart(const void *to, const void *from, size_t count)
@@ -275,7 +277,7 @@ __attribute__((noinline)) static uint32_t follow_event(void)
     return status;
 }
 
-/* The results of direct calls. Addresses are not compared, since the tenant has other superblocks when it is alone. */
+/* The results of direct calls. Addresses are not compared, since a tenant may have other superblocks when it is alone. */
 static struct {
     partmem_status lent_as, status;
     partmem_lent lent, made;
@@ -284,7 +286,7 @@ static struct {
     uint32_t frames;
 } results;
 
-/* Makes the call. If it frees, reads or gives back, lends the bytes before. */
+/* Makes the direct call of `request`. Before a free, a read or a give, lends the block, the bytes or the object. */
 static void call(partmem_tenant tenant, uint32_t first, uint32_t second)
 {
     switch (request.kind) {

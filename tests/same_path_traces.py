@@ -1,26 +1,26 @@
 """Pairs of traces for tests/same-path: a mixed one of several tenants, and for each tenant its own list alone.
 
 A tenant's own list is its commands with the grants, take-backs and resets that the administrator did for it. Only the mixed trace
-has refused grants and take-backs, moves, and the commands of the other tenants. The traces are made by talking to the library, so
-they use the frames and places that it returns, and the same seed makes the same traces.
+has refused grants and take-backs, moves, and the commands of the other tenants. Each line is drawn by the library's replies to
+the lines before, so the traces use the frames and places that the library returns. The same seed makes the same traces.
 """
 import random
 
 # The numbers of the tenants' commands in partmem.h.
 KINDS = dict(zip("alloc free read write cache destroy take give reap report".split(), range(6, 16)))
-# How often a tenant requests each while it takes more than it gives back, and while it gives back more.
+# The weight of each command while a tenant takes more than it gives back, and its weight while the tenant gives back more.
 FILLING = dict(zip(KINDS, (20, 5, 14, 14, 4, 2, 34, 10, .3, 1)))
 EMPTYING = FILLING | {"alloc": 4, "free": 20, "take": 8, "give": 34, "reap": .6}
 ADMIN = {"grant": 5, "takeback": 8, "reset": 4, "move": 12, "pool": 1, "broken": 4}
 BROKEN = ("0 alloc", "1 frob 2", "# nothing", "", "99 alloc 0", "0 alloc 4294967296", "0 write 0 abc", "admin grant", "0" * 300)
 FRAME_BYTES = 4096
-# The shares of a tenant's commands that are passed as numbers, half of them as direct calls, and that are followed into the C
-# library.
+# EVENTS is the share of the followed commands that are passed as numbers, about half of them as events and half as direct calls.
+# WHOLE is the share that is followed into the C library too.
 EVENTS, WHOLE = .7, .06
 
 
 class Tenant:
-    """What a tenant holds, as far as the replies said."""
+    """What a tenant holds, by the replies to its commands."""
 
     def __init__(self, number, order):
         self.number, self.order, self.is_filling, self.slots = number, order, True, set()
@@ -30,7 +30,8 @@ class Tenant:
         self.blocks, self.caches, self.objects = {}, {}, []
 
     def place(self, draw, count):
-        """Returns a place from which this many bytes are in reach, if the tenant holds anything."""
+        """Returns a place in one of the tenant's blocks or objects, from which `count` bytes are in reach unless the block or
+        object is smaller. Returns any place if the tenant has neither."""
         rooms = [(frame * FRAME_BYTES, FRAME_BYTES << order) for frame, order in self.blocks.items()]
         rooms += [(place, self.caches[cache]) for cache, place in self.objects]
         start, room = draw.choice(rooms) if rooms else (draw.randrange(2**16), count)
@@ -81,7 +82,7 @@ class Tenant:
         return [some] if kind in ("alloc", "free", "destroy", "take") else []
 
     def learn(self, words, reply):
-        """Updates what it holds after this reply to its command."""
+        """Updates what the tenant holds by the reply to a command."""
         said = reply.split()
         if said[1] == "frame":
             self.blocks[int(said[2])] = words[1]
@@ -98,7 +99,7 @@ class Tenant:
 
 
 class Pair:
-    """The rows of a mixed trace, and of each tenant's alone, in the form that same_path.c reads."""
+    """The rows of a mixed trace and of each tenant's own trace, in the form that same_path.c reads."""
 
     def __init__(self, machine, commands, seed, ask):
         self.machine, self.ask = machine, ask
@@ -111,7 +112,7 @@ class Pair:
         self.run(commands)
 
     def run(self, commands):
-        """Makes the traces, until this many own commands are followed."""
+        """Adds rows to the traces until this many commands are followed."""
         self.grant_all(2)
         while len(self.followed) < commands:
             if self.draw.random() < .12:
@@ -127,7 +128,7 @@ class Pair:
                 self.grant(tenant.number)
 
     def command(self, tenant, words):
-        """Adds a tenant's command that is followed."""
+        """Adds a tenant's command as a followed row to the mixed trace and to the tenant's own trace."""
         line = " ".join(map(str, [tenant.number, *words]))
         reply = self.ask(line)[0]
         tenant.learn(words, reply)
@@ -143,7 +144,8 @@ class Pair:
         self.followed.append((tenant.number, line, reply))
 
     def own(self, tenant, line, is_done):
-        """Adds a line of the administrator about a tenant, which is in its own list if it was done."""
+        """Adds a line that is not followed to the mixed trace, and to the tenant's own trace if `is_done` is true of the reply.
+        Returns the words of the reply."""
         reply = self.ask(line)[0]
         self.mixed.append("." + line)
         if is_done(reply):
@@ -161,7 +163,7 @@ class Pair:
             self.tenants[t].slots.add(int(said[4]))
 
     def others(self):
-        """Adds something that no tenant does."""
+        """Adds a line that no tenant gives: one of the administrator, or a broken one."""
         kind = self.draw.choices(list(ADMIN), ADMIN.values())[0]
         tenant = self.draw.choice(self.tenants)
         slot = self.draw.choice([*tenant.slots, 0])
@@ -181,7 +183,7 @@ class Pair:
             self.foreign(line)
 
     def foreign(self, line):
-        """Adds a line that is in no tenant's own list."""
+        """Adds a line to the mixed trace only, since it is in no tenant's own list."""
         self.ask(line)
         self.mixed.append("." + line)
 
@@ -189,9 +191,9 @@ class Pair:
 class LongPair(Pair):
     """Like Pair, but each tenant has two caches of 200 slabs, so that the library keeps their lists in groups of slabs.
 
-    A slab has two objects, so it is full, partial or empty, and most commands move one into the middle of another list. A tenant
-    gives back one object of most slabs of a cache, slot by slot, then the other one, and then takes all of them again. Most of its
-    commands are not followed, to save time.
+    A slab has two objects, so it is full, partial or empty, and most commands move a slab into the middle of another list. A
+    tenant gives back one object of most slabs of a cache, slot by slot, then the other one, and then takes all of them again.
+    Most of its commands are not followed, to save time.
     """
 
     # The first and the last cache of a tenant are used. The blocks are as large as a slot, and the slabs lie on both sides of

@@ -1,7 +1,7 @@
 /* Boots machines of each order with each number of superblocks, with each number of tenants, and with every tenth number of
  * superblocks together with every third number of tenants. Sizes outside the ranges have to be refused. Checks what each machine
- * reports about itself, and that a call writes no byte that it may not write. The partmem_machine has to be zeroes after its end.
- * Also refuses each allocation of a boot in turn, so it is linked with library_memory.c. */
+ * reports about itself, and that a call writes no byte that it may not write. partmem_end has to leave zeroes in the
+ * partmem_machine. Also refuses each allocation of a boot in turn, so it is linked with library_memory.c. */
 #include <stdbool.h>
 #include <stdio.h>
 #include <stdlib.h>
@@ -37,7 +37,7 @@ static void check(bool holds, const char *what, uint32_t order, uint32_t superbl
     exit(1);
 }
 
-/* Checks that all bytes are as they were, except this many of the inside. */
+/* Returns whether `place`, `fence` or `buffer` is untouched, except for the first `bytes` bytes of its inside. */
 static bool is_kept_behind(const void *fenced, size_t bytes)
 {
     static uint8_t untouched[sizeof fence];
@@ -59,7 +59,7 @@ static partmem_status boot(partmem_machine *machine, uint32_t order, uint32_t su
     return partmem_boot(machine, &config);
 }
 
-/* Returns the six numbers of the reply to an event. */
+/* Returns the six numbers of the reply to an event. Checks that the event writes no other byte. */
 static const uint32_t *reply_to(partmem_machine *machine, uint32_t kind, uint32_t tenant, uint32_t first, uint32_t second)
 {
     const partmem_request request = {kind, tenant, first, second};
@@ -79,7 +79,8 @@ static bool is_reply(const uint32_t *words, uint32_t kind, uint32_t first, uint3
     return words[0] == kind && words[1] == first && words[2] == second && words[3] == third;
 }
 
-/* Returns whether a lookup finds this superblock under slot 0 of this tenant, or without an owner, and writes nothing else. */
+/* Returns whether partmem_find_superblock reports slot 0 of this tenant as the owner, or no owner if `is_owned` is false, and
+ * writes nothing else. */
 static bool is_owner(partmem_machine *machine, uint32_t superblock, bool is_owned, uint32_t tenant)
 {
     memset(&fence, UNTOUCHED, sizeof fence);
@@ -88,7 +89,7 @@ static bool is_owner(partmem_machine *machine, uint32_t superblock, bool is_owne
            fence.inside.words[1] == tenant && fence.inside.words[2] == 0;
 }
 
-/* Checks that a booted machine has these sizes, and replies to the first commands of its last tenant. */
+/* Checks that a booted machine has these sizes, and gives the right replies to the first commands of its last tenant. */
 static void look_at(partmem_machine *machine, uint32_t order, uint32_t superblocks, uint32_t tenants)
 {
     uint32_t last = tenants - 1;
@@ -145,7 +146,8 @@ static void use_in_place(partmem_machine *machine, uint32_t order, uint32_t supe
     check(is_done && fence.inside.figures.frames == superblocks << order, "the figures of a tenant", order, superblocks, tenants);
 }
 
-/* Checks the reply to `pool`: it has as many bytes as are returned, and changes no more of the buffer. */
+/* Checks that the text of the reply to `admin pool` has a line for each superblock and one before them, and that the call writes
+ * only the number of bytes that it returns. */
 static void look_at_text(partmem_machine *machine, uint32_t superblocks, uint32_t tenants)
 {
     memset(&fence, UNTOUCHED, sizeof fence);
@@ -200,8 +202,8 @@ static int try_edges(void)
     return refused;
 }
 
-/* Returns how many allocations a boot of these sizes makes. Checks that a boot keeps no memory, and leaves the machine's place as
- * it was, if one of them is refused. */
+/* Returns how many allocations a boot of these sizes makes. Checks that if any one of them is refused, the boot keeps no memory
+ * and leaves zeroes in the partmem_machine. */
 static long refuse_each(uint32_t order, uint32_t superblocks, uint32_t tenants)
 {
     for (long number = 1;; number++) {

@@ -13,7 +13,8 @@ ERASED = b"\r\x1b[K"
 
 def run(words, stdin=subprocess.DEVNULL, pause=0, most=None, whole=False):
     """Runs a program with a terminal as standard error, and as standard output too if `whole`. Reads its output after `pause`
-    seconds, and at most `most` bytes if that is given. Returns its status, its output and what it wrote to the terminal."""
+    seconds, and at most `most` bytes if that is given. Returns its status, its output (empty if `whole`), and what it wrote to
+    the terminal."""
     terminal, end = pty.openpty()
     with subprocess.Popen(words, stdin=stdin, stdout=end if whole else subprocess.PIPE, stderr=end) as program:
         os.close(end)
@@ -34,8 +35,9 @@ def run(words, stdin=subprocess.DEVNULL, pause=0, most=None, whole=False):
 
 
 def long_run(words, path, begin, size, end):
-    """Writes a trace of at least `size` bytes for which the program with these words needs more than a second: short comments
-    between its `begin` and its `end`. Without a terminal it may print nothing on standard error. Returns the trace."""
+    """Writes a trace to `path`, and returns it: `begin`, short comments, and `end`. It has at least `size` bytes, and enough of
+    them that the program with these words runs for more than a second. Checks that without a terminal the program prints nothing
+    on standard error."""
     while True:
         trace = begin + b"#\n" * ((size - len(begin) - len(end) + 1) // 2) + end
         with open(path, "wb") as file:
@@ -49,8 +51,9 @@ def long_run(words, path, begin, size, end):
 
 
 def behind_progress(written, program, trace):
-    """Returns what a program wrote to the terminal after its progress in this trace. The progress is one line or more, each with
-    the number of lines and the share of the pieces that were read, and the last one is erased. Without it, returns None."""
+    """Returns what a program wrote to the terminal after its progress in this trace, or None if it has not shown right progress.
+    Progress is one or more texts, each with the number of lines that were read and the percentage of the trace's bytes. Each
+    overwrites the one before, and the last one is erased."""
     pieces, lines = set(), 0
     for begin in range(0, len(trace), PIECE):
         pieces.add((lines, 100 * begin // len(trace)))

@@ -2,9 +2,9 @@
 
     worked_traces.py FOLDER [OTHERS]
 
-Writes each trace that runs on the small machine and shows the replies to all tenants to FOLDER/NAME-NN, and its replies to
-FOLDER/NAME-NN.stdout. Writes the traces that show the replies to one tenant, and the traces that are built, to OTHERS in the same
-way, with their command lines in OTHERS/NAME-NN.words."""
+Writes each trace that runs on the small machine, with replies to all tenants, to FOLDER/NAME-NN, and its replies to
+FOLDER/NAME-NN.stdout. In the same way it writes to OTHERS the traces with the replies to only one tenant, and the traces that
+built_traces.rt builds, and their command lines to OTHERS/NAME-NN.words."""
 import codecs
 import os
 import re

@@ -1,15 +1,16 @@
-# Writes a random trace. The own list of tenant 0 is drawn only from `seed`, and the lines between from `seed` and `world`. So two
-# worlds of one seed and order have the same own list of tenant 0, whatever their other numbers are.
+# Writes a random trace. The own list of tenant 0 depends only on `seed`, `order` and `lines`. The other lines depend on `world`
+# and the other variables too. So two worlds with the same seed, order and lines have the same own list of tenant 0.
 #
 #   awk -v seed=1 -v world=1 -v lines=1000000 -v order=3 -v superblocks=256 -v tenants=64 -v broken=10 -f tests/soak/traces.awk
 #
-# `lines` is the number of lines that are drawn for tenant 0. On average `others` other lines come before each. `broken` of a
-# hundred of these are no command, or a command with numbers that nobody has.
+# `lines` is the number of lines in the own list of tenant 0. On average `others` other lines (3 by default) come before each of
+# them. Of a hundred other lines, `broken` are no command, or a command with numbers that hardly anything has.
 #
 # Tenant 0 never holds more than 4 superblocks, and the others together never more than all but 4, so that no grant to tenant 0 is
 # refused. The machine has to have more than 4.
 
-# Returns a number below n, by Park and Miller's generator: one for the own list (0), and one for the lines between (1).
+# Returns a number from 0 to n - 1, by Park and Miller's generator. There are two generators: `whose` is 0 for the one of the own
+# list, and 1 for the one of the other lines.
 function draw(n) {
     state[whose] = (state[whose] * 16807) % 2147483647
     return int(state[whose] / 2147483647 * n)
@@ -30,7 +31,7 @@ function frame(t, k) {
     return int(draw((held[t] ? held[t] : 1) * 2 ^ order) / 2 ^ k) * 2 ^ k
 }
 
-# Returns the size of objects in a cache, by its number: most tenants make caches in this order.
+# Returns the size of the objects in a cache with this number, if the tenant has made its caches in the order of `sizes`.
 function size(c) {
     return sizes[c % size_count + 1]
 }
@@ -73,13 +74,13 @@ function administer(t, most,    word) {
     return "admin takeback " t " " draw(held[t] + 1)
 }
 
-# Returns a number that hardly anything has: an end of a range, or one that wraps to a small number.
+# Returns a number that hardly anything has: the end of a range, or one that would wrap to a small number. Or returns no number.
 function far() {
     return pick("31 32 63 64 255 256 65535 65536 1048576 16777216 536870912 2147483647 2147483648 4294963200 4294967232 4294967295 " \
         "4294967296 9999999999 00000000000 18446744073709551616 -1 +1 0x1 1e3 x")
 }
 
-# Returns a line that is no command, or one that is refused on any machine.
+# Returns a line that is no command, or a command with numbers that hardly anything has.
 function broken_line(    kind, text, n) {
     kind = draw(8)
     if (kind == 0) { n = draw(300); while (n-- > 0) text = text sprintf("%c", 11 + draw(245)); return (text ~ /^[ 0a]/ ? "~" : "") text }

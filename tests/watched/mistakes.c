@@ -1,5 +1,6 @@
-/* Makes the mistake that the command line names, which a tool has to report at a line that is marked. With "none" it makes no
- * mistake. Loads and stores go through volatile pointers, so that no compiler removes them. */
+/* Makes the mistake that the command line names. A tool has to report it at a line with the comment HERE. With "none" the program
+ * makes no mistake, and without a name it prints all names. Loads and stores go through volatile pointers, so that no compiler
+ * removes them. */
 #include "partmem_watched.h"
 
 #include <stdio.h>
@@ -180,7 +181,8 @@ static void write_past(void)
     free((char *)at);
 }
 
-/* Makes no mistake, but uses memory up to its edges. Pieces keep their bytes, and have as many as were requested. */
+/* Makes no mistake, but uses memory up to its edges. Checks that pieces of the heap keep their bytes, and that their usable size
+ * is the size that was requested. */
 static void none(void)
 {
     char *at = partmem_heap_malloc(&heap, 100);
