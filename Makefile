@@ -46,7 +46,7 @@ tools: ; @tests/missing-tools
 proved: ; @tests/verdict --still
 $(addprefix check-,$(OVER_PROGRAMS)): proved
 $(addprefix check-,$(OVER_LIBRARY)): library
-# Scripts run `make` as a user does, and not as a part of this `make`, which would print the folders that it enters.
+# Scripts run without the variables of this `make`. A `make` that they run would otherwise print the folders that it enters.
 AS_A_USER := env -u MAKEFLAGS -u MFLAGS -u MAKELEVEL
 check-pasted-first: ; $(AS_A_USER) tests/pasted --first
 IN_FOLDERS := $(addprefix check-,in-place heap watched cpp)

@@ -1,4 +1,5 @@
-# find_package(partmem VERSION) accepts versions up to this one with the same major number, for processors with 64 bits.
+# find_package(partmem VERSION) accepts this package if VERSION has the same major number and is not newer, and pointers have 64
+# bits.
 set(PACKAGE_VERSION @VERSION@)
 string(REGEX MATCH "^[0-9]+" _partmem_major "${PACKAGE_VERSION}")
 set(PACKAGE_VERSION_COMPATIBLE FALSE)

@@ -1,6 +1,5 @@
-# Defines the targets of find_package(partmem): partmem::partmem, and partmem::partmem_kernel and partmem::partmem_linux for
-# kernels.
-# Paths are relative to this file, so the installation may be moved.
+# Defines the targets of find_package(partmem): partmem::partmem for programs, partmem::partmem_kernel for kernels, and
+# partmem::partmem_linux for modules of Linux. Paths are relative to this file, so the installation may be moved.
 get_filename_component(_partmem_prefix "${CMAKE_CURRENT_LIST_DIR}/@PREFIX@" ABSOLUTE)
 get_filename_component(_partmem_libdir "${CMAKE_CURRENT_LIST_DIR}/../.." ABSOLUTE)
 foreach(_partmem_archive partmem partmem_kernel partmem_linux)

@@ -1,5 +1,5 @@
-"""Helpers of tools/library and tools/unproved: which crates there are, where the toolchain is, and how one archive is made of the
-library for C and its functions in C."""
+"""Helpers of tools/library and tools/unproved: they find the crates and the toolchain, and make one archive of the library for C
+and its functions in C."""
 import functools
 import glob
 import os
@@ -18,7 +18,8 @@ DECLARED = re.compile(r"^(?!PARTMEM_INLINE)[a-zP][^*(\n]*\*?(partmem_\w+)\(", re
 CODE = ["-march=x86-64-v2", "-ffunction-sections", "-fPIE", "-O2"]
 # The functions of string.h that libpartmem_watched.a has itself, and the C file that defines them.
 OWN_FUNCTIONS, OF_WATCHED = ["memcpy", "memmove", "memset"], "unseen.c"
-# The part of the standard headers that the two headers and the functions in C use: the kit's clang has none of its own.
+# The parts of standard headers that partmem.h, partmem_heap.h and the functions in C use. The kit's clang has no standard
+# headers.
 HEADERS = {
     "stdbool.h": "#define bool _Bool\n#define false 0\n#define true 1\n",
     "stddef.h": "typedef __SIZE_TYPE__ size_t;\n#define NULL ((void *)0)\n",
@@ -34,7 +35,7 @@ def printed(*words):
 
 @functools.lru_cache(maxsize=None)
 def kit():
-    """Returns the folder of the toolchain: the one with the page that `rt doc` names."""
+    """Returns the folder of the toolchain, in which the page that `rt doc` names lies."""
     return os.path.dirname(printed("rt", "doc"))
 
 
@@ -45,7 +46,7 @@ def version():
 
 @functools.lru_cache(maxsize=None)
 def uses():
-    """Returns the libraries that each crate of crates.txt uses, those of this repository and the kit's."""
+    """Returns the names of the libraries that each crate of crates.txt uses, both this repository's and the kit's."""
     with open(f"{TOP}/crates.txt", encoding="utf-8") as lines:
         rows = [line.partition("#")[0].partition(":") for line in lines]
     return {name.split()[0]: used.split() for name, _, used in rows if name.strip()}
@@ -78,7 +79,7 @@ def declared():
 
 def compile_in_c(work, flags, files):
     """Compiles C files by the kit's clang, so that no other compiler is needed: to objects if the flags have -c, to assembly if
-    they have -S. Returns the names of the files that it makes in `work`."""
+    they have -S. Returns the names of the files that this makes in `work`."""
     for name, text in HEADERS.items():
         write(f"{work}/{name}", text)
     command = [f"{kit()}/toolchain/bin/clang", f"--target={TARGET}", "-std=c11", "-ffreestanding", "-isystem", work, *CODE]
@@ -93,8 +94,8 @@ def compile_functions_in_c(work, flags, left_out=()):
 
 
 def add_functions_in_c(library, to):
-    """Writes to `to` one archive of a library and of the C files beside partmem.h, with an object for each. A program links it
-    and the C library, and nothing else. If it does not call partmem_boot, it needs only functions of string.h."""
+    """Writes to `to` one archive of the objects of a library and an object for each C file beside partmem.h. A program has to
+    link only this archive and the C library. If it does not call partmem_boot, the archive needs only functions of string.h."""
     with tempfile.TemporaryDirectory(prefix="archive-") as work:
         shutil.copy(library, f"{work}/library.a")
         added = "".join(f"addmod {name}\n" for name in compile_functions_in_c(work, ["-c"]))
@@ -104,7 +105,8 @@ def add_functions_in_c(library, to):
 
 
 def make_watched(archive, to):
-    """Writes to `to` the code of an archive as one object, which calls its own functions instead of OWN_FUNCTIONS of string.h."""
+    """Writes to `to` an archive with the code of another archive as one object. Instead of the OWN_FUNCTIONS of string.h, the
+    object calls functions that it has itself."""
     tools = f"{kit()}/toolchain/bin"
     with tempfile.TemporaryDirectory(prefix="watched-") as work:
         own = compile_in_c(work, ["-c"], [f"{TOP}/crates/{LIBRARY}/{OF_WATCHED}"])

@@ -4,10 +4,11 @@ tools/library builds each by `rattle build` from the same checked crate as the l
 
     python3 tools/kernels.py NAME FOLDER CLANG WORD..
 
-instead. For the module of the library this script adds to the text what KERNELS lists, and compiles it with the flags there. All
-other calls go to CLANG as they are. In FOLDER it leaves the assembly (module.s), which tools/one_object.py joins with the
-assembly of the functions in C. For tests/kernel-archives it also leaves the text before the change (module.ll) and after it
-(changed.ll), and the words of the call. Neither a proof nor the kit vouches for these flags.
+instead. For a call that compiles the library's module, this script adds what KERNELS lists to the module's text, and compiles it
+with the flags there. All other calls go to CLANG as they are. In FOLDER it leaves the assembly (module.s), which
+tools/one_object.py joins with the assembly of the functions in C. For tests/kernel-archives it also leaves the text before the
+change (module.ll) and after it (changed.ll), and the words of the call (words). Neither a proof nor the kit vouches for these
+flags.
 """
 import json
 import os
@@ -23,12 +24,12 @@ class Kernel(NamedTuple):
     # Flags of clang, and flags that have an effect only on C.
     flags: list[str]
     flags_for_c: list[str]
-    # What is added to the attributes of each function in the text, since some flags have no effect on a module that is already
-    # text.
+    # What is added to the attributes of each function in the text. Some flags of clang have no effect on a module that is already
+    # text, and these attributes have that effect.
     attributes: str
-    # What is added at the end of the text: flags of the module, which also have no effect on text otherwise.
+    # What is added at the end of the text: flags of the module, in place of more flags of clang that have no effect on text.
     last: str
-    # Sections that have another name and other flags in the object.
+    # Maps the name and the flags of a section to those that it gets in the object.
     renamed: dict[str, str]
 
 
@@ -43,7 +44,7 @@ FLAGGED = """!llvm.module.flags = !{!9001, !9002}
 # Bytes of padding before each function, into which Linux can write code that counts the calls.
 PADDING = 16
 PADDED = f'"patchable-function-prefix"="{PADDING}"'
-# Where clang puts functions that are seldom called.
+# Clang puts functions that are seldom called into a section of their own. They go to .text instead.
 SELDOM = {'.text.unlikely.,"ax"': '.text,"ax"'}
 KERNELS = {
     "kernel": Kernel(BARE, [], "noredzone", "", SELDOM),
@@ -52,7 +53,7 @@ KERNELS = {
         ["-mindirect-branch-cs-prefix", f"-fpatchable-function-entry={PADDING},{PADDING}"],
         f'noredzone fn_ret_thunk_extern "no-jump-tables"="true" {PADDED}',
         FLAGGED,
-        # Linux relocates a module before it makes .rodata read-only, and never makes .data.rel.ro so.
+        # Linux relocates a module before it makes .rodata read-only. It never makes .data.rel.ro read-only.
         {**SELDOM, '.data.rel.ro,"aw"': '.rodata,"a"'},
     ),
 }
@@ -68,7 +69,7 @@ def text_of(clang, module):
 
 
 def changed(text, kernel):
-    """Returns the text with a kernel's attributes and last lines."""
+    """Returns the text of a module with the attributes and the last lines of a Kernel."""
     attributes = rf"\1 {kernel.attributes} }}"
     return re.sub(r'^(attributes #\d+ = \{.* "target-cpu"=.*) \}$', attributes, text, flags=re.M) + kernel.last
 

@@ -10,8 +10,8 @@ import tempfile
 
 from building import TARGET, compile_functions_in_c, declared, kit, read, write
 
-# What is left out: the entries for tracing that clang writes with the padding of functions, and the notes of the units'
-# properties except the first.
+# What is left out: the entries for tracing that clang writes with the padding of functions, and the notes with properties of all
+# units except the first.
 TRACED = re.compile(r"^\t\.section\t__patchable_function_entries,.*\n\t\.p2align\t.*\n\t\.quad\t.*\n", re.M)
 NOTE = re.compile(r"^\t\.section\t\.note\.gnu\.property,.*\n(?:\t\.(?:p2align|long|asciz)\t.*\n)+", re.M)
 STRING = re.compile(r"\t\.(ascii|asciz|string)\b")
@@ -20,7 +20,8 @@ GLOBAL = re.compile(r"\t\.globl\t(\w+)\b")
 
 
 def unit_of(text, number, renamed):
-    """Returns the assembly of a unit with local labels, .L.., that no other unit has, and with the sections that are `renamed`."""
+    """Returns the assembly of a unit, with its number in each local label (.L..), so that no other unit has the same label.
+    Sections are renamed as the dictionary `renamed` says."""
     text = TRACED.sub("", text)
     if number > 0:
         text = NOTE.sub("", text)
@@ -31,7 +32,7 @@ def unit_of(text, number, renamed):
 
 
 def joined(texts, renamed):
-    """Returns one file of assembly for some units. Only the headers' functions without partmem_boot are global in it."""
+    """Returns the assembly of all units as one text. Only the headers' functions are global in it, without partmem_boot."""
     lines = "".join(unit_of(text, number, renamed) for number, text in enumerate(texts)).splitlines(keepends=True)
     found = {match[1]: number for number, line in enumerate(lines) if (match := GLOBAL.match(line))}
     names = declared() - {"partmem_boot"}
