@@ -1,7 +1,7 @@
 """Pairs of traces for tests/same-path: a mixed one of several tenants, and for each tenant its own list alone.
 
 A tenant's own list is its commands with the grants, take-backs and resets that the administrator did for it. Only the mixed trace
-has refused grants and take-backs, moves, and the commands of the other tenants. Each line is drawn by the library's replies to
+has refused grants and take-backs, moves, and the commands of the other tenants. Each line depends on the library's replies to
 the lines before, so the traces use the frames and places that the library returns. The same seed makes the same traces.
 """
 import random
