@@ -39,7 +39,7 @@ release: ## makes a release of what the gate has passed
 	./release
 bench: ## measures the proved program
 	bench/run
-soak: ## runs random pairs of worlds for ten minutes
+soak: ## runs random pairs of traces for ten minutes, and compares the replies to one tenant
 	tests/soak/run
 
 tools: ; @tests/missing-tools

@@ -1,9 +1,8 @@
 /* Runs a trace through the library for C, and follows marked commands, instruction by instruction.
  *
  * same_path ORDER SUPERBLOCKS TENANTS talk         runs the lines of standard input; writes the reply to each, and a line "."
- * same_path ORDER SUPERBLOCKS TENANTS step [N]     runs a trace from standard input; writes a row for each marked command, or
- * only
- *                                                  a row for each step of the marked command with number N
+ * same_path ORDER SUPERBLOCKS TENANTS step [N]     runs a trace from standard input; writes a row for each marked command, or,
+ *                                                  with N, a row for each step of marked command N
  *
  * A row of a trace is not marked if it begins with '.': its line is run at full speed. The marks of commands that are followed
  * are '+' for a line, and '=' for an event: its kind, tenant, first and second number and the hex of its bytes. '@' has the same

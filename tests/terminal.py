@@ -52,7 +52,7 @@ def long_run(words, path, begin, size, end):
 
 def behind_progress(written, program, trace):
     """Returns what a program wrote to the terminal after its progress in this trace, or None if it has not shown right progress.
-    Progress is one or more texts, each with the number of lines that were read and the percentage of the trace's bytes. Each
+    Progress is one or more texts, each with the number of lines and the percentage of the trace's bytes that were read. Each
     overwrites the one before, and the last one is erased."""
     pieces, lines = set(), 0
     for begin in range(0, len(trace), PIECE):

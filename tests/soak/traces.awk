@@ -74,7 +74,7 @@ function administer(t, most,    word) {
     return "admin takeback " t " " draw(held[t] + 1)
 }
 
-# Returns a number that hardly anything has: the end of a range, or one that would wrap to a small number. Or returns no number.
+# Returns a number that hardly anything has: the end of a range, or one that would wrap to a small number. Some are no numbers.
 function far() {
     return pick("31 32 63 64 255 256 65535 65536 1048576 16777216 536870912 2147483647 2147483648 4294963200 4294967232 4294967295 " \
         "4294967296 9999999999 00000000000 18446744073709551616 -1 +1 0x1 1e3 x")
