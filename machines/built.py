@@ -1,4 +1,5 @@
-"""Finds what is built, for scripts that use it: the proved program or library, or else the one that tools/unproved has left."""
+"""Finds the programs and libraries that scripts use: the proved one if it is built, or else the unproved one of
+tools/unproved."""
 import os
 import sys
 
@@ -7,8 +8,8 @@ HOW = 'build it by `make unproved`, which proves nothing and takes two minutes, 
 
 
 def found(user, proved, unproved):
-    """Returns the path of the first of these files that exists, or None. They are named from the top of the repository or of a
-    release. If only the unproved one exists, a message of the script `user` says so on standard error."""
+    """Returns the path of the first file that exists of the list `proved` and then `unproved`, or None. All are named from the
+    top of the repository or of a release. If it returns the unproved one, it says so on standard error, as the script `user`."""
     for file in [*proved, unproved]:
         path = os.path.join(TOP, file)
         if os.path.isfile(path):

@@ -1,4 +1,4 @@
-"""Finds for from-malloc who allocated the blocks that are live at the time when most bytes are live."""
+"""Finds, for from-malloc, which callers of malloc allocated the blocks that are live at the peak: when most bytes are live."""
 import collections
 import os
 import shutil
@@ -8,11 +8,12 @@ import time
 import summary
 
 MOST_ROWS, MOST_LOOKED_UP, MOST_CHARACTERS = 20, 1000, 80
-MOST_SECONDS, MOST_BYTES = 60, 1 << 32  # for all runs of addr2line together; of a file that it reads
+MOST_SECONDS, MOST_BYTES = 60, 1 << 32  # the time for all runs of addr2line together; the size of a file that it reads
 
 
 class Calls:
-    """The live bytes and blocks of a caller, and in `then` those that were live at the peak whose number is `peak`."""
+    """`size` and `count` are the live bytes and blocks of a caller. `then` has both as they were at the peak with number
+    `peak`."""
     __slots__ = 'size', 'count', 'peak', 'then'
 
     def __init__(self):
@@ -21,13 +22,13 @@ class Calls:
 
 
 class Callers:
-    """The callers of malloc in a log, and what each of them has when most bytes are live. A caller is a path and an offset, or
-    None."""
+    """The callers of malloc in a log, with the live bytes and blocks of each at the peak. A caller is a path and an offset, or
+    None if the log does not name it."""
 
     def __init__(self):
         self.calls = collections.defaultdict(Calls)     # by caller
-        self.blocks = {}                                # by pointer: the calls that its block belongs to, and its bytes
-        self.total = self.most = self.peaks = 0         # bytes live now and at most; how many peaks there were
+        self.blocks = {}                                # by pointer: the Calls of the block's caller, and its bytes
+        self.total = self.most = self.peaks = 0         # live bytes now and at most; how often `most` has risen
 
     def allocate(self, pointer, size, caller):
         self.free(pointer)
@@ -41,8 +42,8 @@ class Callers:
             self.change(calls, -size, -1)
 
     def change(self, calls, size, count):
-        """Counts a change. The first change of a caller after a peak stores what the caller had at the peak. As long as nothing
-        changes, the caller still has it."""
+        """Adds to the live bytes and blocks of a caller. The caller's first change after a peak stores in `then` what it had at
+        the peak. Until that change, `size` and `count` are still what it had at the peak."""
         if calls.peak < self.peaks:
             calls.peak, calls.then = self.peaks, (calls.size, calls.count)
         calls.size += size
@@ -53,21 +54,21 @@ class Callers:
             self.peaks += 1
 
     def at_peak(self):
-        """Returns the bytes and blocks of each caller at the time when most bytes were live, most bytes first."""
+        """Returns (bytes, blocks, caller) for each caller that had live blocks at the last peak, most bytes first."""
         then = [(calls.then if calls.peak == self.peaks else (calls.size, calls.count), caller)
                 for caller, calls in self.calls.items()]
         return sorted(((size, count, caller) for (size, count), caller in then if count), key=lambda it: (-it[0], str(it[2])))
 
 
 def is_plain(path):
-    """Returns whether addr2line may read a path, which a log may choose freely: only a plain file, and neither an empty nor a
-    huge one, as files of /proc are."""
+    """Returns whether addr2line may read this path. A log can name any path, so only a regular file with an absolute path is
+    allowed. It must not be empty, as files of /proc are, or larger than MOST_BYTES."""
     return os.path.isabs(path) and os.path.isfile(path) and 0 < os.path.getsize(path) <= MOST_BYTES
 
 
 def functions(path, offsets, seconds):
-    """Returns the functions that contain these return addresses in a file, if addr2line knows them. It asks no server for
-    symbols."""
+    """Returns, by offset, the names that addr2line prints for the functions with these return addresses in a file. Returns no
+    names if addr2line fails, is not installed or needs more than `seconds`. addr2line asks no server for symbols."""
     if seconds <= 0 or not shutil.which('addr2line'):
         return {}
     asked = ''.join(f'{max(offset - 1, 0):x}\n' for offset in offsets)
@@ -92,7 +93,8 @@ def name_of(caller, function):
 
 
 def by_name(rows):
-    """Returns the bytes and blocks of each name, most bytes first. Calls from one function are counted together."""
+    """Returns (bytes, blocks, name) for each name, most bytes first. All callers in one function have the same name. Only the
+    first MOST_LOOKED_UP callers are looked up by addr2line."""
     offsets, end = collections.defaultdict(list), time.monotonic() + MOST_SECONDS
     for _, _, caller in rows[:MOST_LOOKED_UP]:
         if caller:
@@ -107,7 +109,7 @@ def by_name(rows):
 
 
 def tell(callers):
-    """Prints the callers with the most bytes."""
+    """Prints a row for each of the MOST_ROWS names with the most bytes at the peak, and one for all others together."""
     rows = by_name(callers.at_peak())
     summary.heading(f'when most bytes were live, {callers.most} of them: bytes and allocations by the caller of malloc')
     shown, rest = rows[:MOST_ROWS], rows[MOST_ROWS:]

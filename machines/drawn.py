@@ -29,17 +29,18 @@ LAYER = re.compile(r'<path class="(?P<classes>cells d(?P<depth>\d))" transform="
 
 
 class Figures:
-    """By column: how many frames a tenant holds, how many of these are taken, and how often it had been refused frames."""
+    """The figures of a tenant, in lists by column: the frames that it holds, how many of these are taken, and how often it has
+    been refused frames up to the column."""
 
     def __init__(self):
         self.held, self.taken, self.refused = [], [], []
 
     def at_most(self):
-        """Returns the most frames that were taken, and the number that was held then."""
+        """Returns the most frames that are taken in a column, and how many are held in this column."""
         return max(zip(self.taken, self.held), default=(0, 0))
 
     def refusing(self):
-        """Returns the columns in whose lines the tenant was refused frames."""
+        """Returns the numbers of the columns in whose lines the tenant was refused frames."""
         return [at for at, (before, count) in enumerate(zip([0, *self.refused], self.refused)) if count > before]
 
     def at_end(self):
@@ -47,7 +48,7 @@ class Figures:
 
 
 def read_table(table):
-    """Returns the lines of the columns, and the figures by tenant."""
+    """Returns the last line of each column, and the figures by tenant."""
     lines, figures = [], collections.defaultdict(Figures)
     for row in table.splitlines()[1:]:
         line, tenant, held, taken, refused = map(int, row.split(',')[:5])
@@ -60,7 +61,7 @@ def read_table(table):
 
 
 def parts_of(picture):
-    """Returns the head of a picture of framemap, and its bands."""
+    """Returns the matches of HEAD and of each BAND in a picture of framemap. Fails if the picture has other parts."""
     head = HEAD.match(picture)
     at, bands = head.end() if head else 0, []
     while head and (band := BAND.match(picture, at)):

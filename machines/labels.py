@@ -1,5 +1,5 @@
-"""Adds to a picture of framemap what the trace and the figures say: names, bytes, times, and titles that appear under the
-pointer. All else stays where framemap has drawn it."""
+"""Adds labels to a picture of framemap: names, bytes, times, and titles that appear under the pointer. Moves each band down, to
+make space for a line with its name. If the axis is time, also changes where each column begins and ends."""
 import html
 import re
 
@@ -7,14 +7,14 @@ import drawn
 import scales
 from scales import WIDTH
 
-LEFT, RIGHT, MARGIN = 72, 36, 16        # the space left and right of the columns; what is added to it on both sides
-NAME_LINE = 18                          # by how much each band becomes higher, for a line with its name
-BELOW, FREE_BELOW = 18, 40              # how far below the foot of a band the numbers of its lines are, and its end
+LEFT, RIGHT, MARGIN = 72, 36, 16        # the space left and right of framemap's columns; the space that is added on each side
+NAME_LINE = 18                          # the height of the line with a band's name
+BELOW, FREE_BELOW = 18, 40              # from the foot of a band down to the numbers of its lines, and to its end
 MARKS_BELOW, MARK_HEIGHT = 4, 9         # how far below the rows the marks of refusals are, and their height
-INDENT = 12                             # of a band's figures: the word above its axis comes before them
+INDENT = 12                             # of a band's figures, which are right of the word above its axis
 BYTES_RIGHT = 22                        # where the numbers of bytes end
-MOST_NAME = 64                          # characters of a name
-MOST_TITLES, LEAST_WIDTH, LEAST_HEIGHT = 1500, 3, 3     # how many rectangles have a title, and their least size in pixels
+MOST_NAME = 64                          # characters of a name; a longer one is cut
+MOST_TITLES, LEAST_WIDTH, LEAST_HEIGHT = 1500, 3, 3     # the most rectangles with a title, and the least size of one in pixels
 KINDS = {'page': 'page blocks', 'full': 'full slabs', 'partial': 'partial slabs', 'empty': 'empty slabs', 'free': 'free',
          'none': 'not held'}
 SHARES = {'one': 'up to a quarter', 'two': 'up to half', 'three': 'up to three quarters', '': 'more than three quarters'}
@@ -30,7 +30,7 @@ def text(words, y, x, kind=None):
 
 
 class Labels:
-    """What is added to a picture."""
+    """What the labels of a picture are made of: the figures, the names, the axis and the unit of bytes."""
 
     def __init__(self, table, remarks, width, by_time=False, has_titles=False):
         self.lines, self.figures = drawn.read_table(table)
@@ -66,7 +66,7 @@ class Band:
         return width * height if width >= LEAST_WIDTH and height >= LEAST_HEIGHT else 0
 
     def title(self, kind, shade, rectangle):
-        """Returns what a rectangle shows: its frames, its lines, and the kind of the frames."""
+        """Returns the title of a rectangle: the tenant, the frames and the lines, and the kind of the frames."""
         column, row, columns, rows = rectangle
         first, end, lines = row * self.per_row, (row + rows) * self.per_row, self.labels.lines
         frames = f'frames {first} to {end - 1}' if end > first + 1 else f'frame {first}'
@@ -96,7 +96,7 @@ class Band:
                     yield f'<path class="{classes}" d="{self.draw_rectangle(it)}"><title>{title}</title></path>'
 
     def draw_layers(self, order):
-        """Yields the layers of the free frames."""
+        """Yields a path for each order that has free blocks, with the frames in them."""
         axis = self.labels.axis
         for it in drawn.LAYER.finditer(self.found['layers']):
             path = re.sub(r'H(\d+)', lambda turn: f'H{axis.place(int(turn[1]))}', it['path'])
@@ -117,7 +117,7 @@ class Band:
         return f'<path class="refused" d="{marks}"/>'
 
     def draw_window(self, titled, order):
-        """Yields the part of the band that moves when other lines are shown."""
+        """Yields the part of the band that the page moves and stretches to show other lines."""
         height = self.foot - self.top
         yield (f'<svg class="window" x="{LEFT}" y="{self.top}" width="{WIDTH}" height="{height}" '
                f'viewBox="{LEFT} {self.top} {WIDTH} {height}" preserveAspectRatio="none">')
@@ -132,7 +132,7 @@ class Band:
         yield '</svg>'
 
     def draw_axes(self):
-        """Returns the axes beside the rows, with bytes beside the frames."""
+        """Returns the axes beside the rows, with a number of bytes beside each number of frames."""
         unit, bytes_at = self.labels.unit, f'class="right" x="{BYTES_RIGHT}" y='
         axes = re.sub(r'<text class="right" x="66" y=("\d+")>frame</text>', rf'\g<0><text {bytes_at}\1>{unit.name}</text>',
                       self.found['axes'])
@@ -171,14 +171,14 @@ class Band:
 
 
 def titled_in(bands):
-    """Returns the largest rectangles of all bands, which get titles."""
+    """Returns the rectangles that get titles, each with its tenant: the MOST_TITLES largest ones of all bands."""
     found = [(band.area(it), band.tenant, it) for band in bands for _, _, rectangles in band.paths for it in rectangles]
     largest = sorted((it for it in found if it[0]), reverse=True)[:MOST_TITLES]
     return {(tenant, it) for _, tenant, it in largest}
 
 
 def add(head, found, labels):
-    """Yields the picture of this head and these bands, with its labels."""
+    """Returns the picture with this head and these bands, with its labels."""
     bands, order = [Band(it, labels) for it in found], int(head['frames']).bit_length() - 1
     height = int(head['height']) + NAME_LINE * len(bands)
     titled = titled_in(bands) if labels.has_titles else set()

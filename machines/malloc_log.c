@@ -10,9 +10,10 @@
    is malloc.log if MALLOC_LOG is not set. A relative name is made absolute in the first process, for its children too. If the
    name is empty, nothing is logged.
 
-   The first line is "# program NAME", with the name by which the program was called. The others are
-   "SECONDS malloc POINTER BYTES" and "SECONDS free POINTER", with POINTER in hex digits; a realloc is a free and a malloc. They
-   are written through a shared mapping of the file, so none is lost however the process ends. The file ends in zeroes.
+   The first line is "# program NAME", with the name by which the program was called. Then each call has a line,
+   "SECONDS malloc POINTER BYTES" or "SECONDS free POINTER", with POINTER in hex digits. A realloc is logged as a free and a
+   malloc. The lines are written to a shared mapping of the file, so none is lost however the process ends. The file ends in
+   zeroes.
 
    If MALLOC_LOG_CALLERS is set and not empty, a malloc line ends in " FILE+OFFSET", the address to which its call returns: FILE
    is the number of a loaded file, in decimal, and OFFSET is the offset from where it is loaded, in hex digits. The line
@@ -48,15 +49,15 @@ enum { WINDOW_BYTES = 1 << 16, PAGE_BYTES = 1 << 12, PATH_BYTES = 4096, NAME_BYT
 
 /* A fork handler of another library may allocate while this is held, so it is recursive. */
 static pthread_mutex_t lock = PTHREAD_RECURSIVE_MUTEX_INITIALIZER_NP;
-static char entry[sizeof VARIABLE "=" + PATH_BYTES] = VARIABLE "="; /* what the environment of children gets */
-static char *const name = entry + sizeof VARIABLE;                  /* absolute; nothing is logged while it is empty */
+static char entry[sizeof VARIABLE "=" + PATH_BYTES] = VARIABLE "="; /* the variable in the environment of children */
+static char *const name = entry + sizeof VARIABLE;                  /* an absolute path; nothing is logged while it is empty */
 static char path[PATH_BYTES + 32];
 static char head[NAME_BYTES + 32]; /* the first line of each log */
 static bool has_callers;
 static char own_file[PATH_BYTES]; /* the path of the program's file */
 static struct {
     uintptr_t load;
-    uint64_t name; /* a hash of it */
+    uint64_t name; /* a hash of the path */
 } files[MOST_FILES]; /* the loaded files that this log has named */
 static int file_count;
 static char *window;       /* the part of the log that is being written, or NULL before the first line */
@@ -89,8 +90,8 @@ static int map_window(int file)
     return 0;
 }
 
-/* Makes space for at least one more line. Returns 0, or the number of the error. The file is open only here: programs close files
-   that they did not open. */
+/* Makes space for at least one more line. Returns 0, or the number of the error. The file is open only here, since some programs
+   close files that they did not open. */
 static int next_window(void)
 {
     int file = open_log(), error = file < 0 ? errno : 0;
@@ -107,7 +108,8 @@ static int next_window(void)
     return error;
 }
 
-/* Blocks the signals that are sent for a file that may not grow, and for a standard error that nobody reads. */
+/* Blocks SIGXFSZ, which is sent if the log may not grow, and SIGPIPE, which is sent if nobody reads standard error. Stores these
+   two in `held`, and the mask of signals from before in `before`. */
 static void hold_signals(sigset_t *held, sigset_t *before)
 {
     sigemptyset(held);
@@ -116,7 +118,7 @@ static void hold_signals(sigset_t *held, sigset_t *before)
     pthread_sigmask(SIG_BLOCK, held, before);
 }
 
-/* Drops these signals if they came, and restores the mask from before. */
+/* Drops the signals of `held` that came meanwhile, and restores the mask `before`. */
 static void drop_signals(const sigset_t *held, const sigset_t *before)
 {
     static const struct timespec at_once;
@@ -125,7 +127,8 @@ static void drop_signals(const sigset_t *held, const sigset_t *before)
     pthread_sigmask(SIG_SETMASK, before, NULL);
 }
 
-/* Reports why there is no log, and logs nothing more, neither here nor in programs that this process starts. */
+/* Reports that `what` cannot be written, and why. From now on nothing is logged, neither by this process nor by programs that it
+   starts. */
 static void give_up(const char *what, int error)
 {
     const char *texts[] = {"malloc_log: cannot write ", what, ": ", strerrordesc_np(error), "; the program runs on without a log\n"};
@@ -166,7 +169,7 @@ static void put(const char *line, size_t length)
     }
 }
 
-/* Ends a line of text, in which control characters become question marks. Returns its length. */
+/* Replaces each control character of a line by a question mark, and appends a newline. Returns the new length. */
 static size_t end_line(char *line)
 {
     size_t length = strlen(line);
@@ -178,7 +181,8 @@ static size_t end_line(char *line)
     return length + 1;
 }
 
-/* Returns the number of a loaded file, or -1 if there are too many. A line names each file before its number is used. */
+/* Returns the number of the file that is loaded at `load`, or -1 if it has none and MOST_FILES files have one. When a file gets
+   its number, a line of the log says so. */
 static int file_of(uintptr_t load, const char *loaded)
 {
     static char line[PATH_BYTES + 32];
@@ -197,8 +201,8 @@ static int file_of(uintptr_t load, const char *loaded)
     return file_count++;
 }
 
-/* Writes the file and the offset of a caller. Returns how many characters these are: 0 if callers are not logged, or if this one
-   is unknown. This takes no lock of the loader: another thread may hold one and wait for ours. */
+/* Writes " FILE+OFFSET" for a caller. Returns the number of characters: 0 if callers are not logged, or if the caller's file has
+   no number. This function takes no lock of the loader, since another thread may hold that lock and wait for `lock`. */
 static int write_caller(char *to, size_t size, void *caller)
 {
 #if __GLIBC_PREREQ(2, 35)
@@ -233,7 +237,8 @@ static void add_line(const char *what, const void *at, const size_t *bytes, void
     errno = error;
 }
 
-/* A malloc is logged after the call and a free before it, so that no other thread can log the same bytes in between. */
+/* A malloc is logged after the C library's call, and a free before it. So if another thread gets the freed bytes, its malloc
+   comes after the free in the log. */
 static void *log_malloc(void *at, size_t bytes, void *caller)
 {
     if (at)
@@ -261,7 +266,8 @@ static void after_fork_in_child(void)
     lock = (pthread_mutex_t)PTHREAD_RECURSIVE_MUTEX_INITIALIZER_NP;
 }
 
-/* Makes the path from the given name, and tests its folder. Returns 0, or the number of the error. */
+/* Stores the absolute path of the given name in `path`, and tests that its folder can be written. Returns 0, or the number of the
+   error. */
 static int make_path(const char *given)
 {
     size_t folder = 0;
@@ -281,7 +287,7 @@ static int make_path(const char *given)
     return error;
 }
 
-/* Puts the entry into the environment. Does not call putenv: a shell may define a putenv of its own, which does not put it there. */
+/* Puts `entry` into the environment. Does not call putenv: a shell may define its own putenv, which does not put it there. */
 static void put_entry(void)
 {
     size_t count = 0;
@@ -300,7 +306,7 @@ static void put_entry(void)
     environ = more;
 }
 
-/* Makes the first line of a log. Finds whether callers are logged, and the path of the program's file for them. */
+/* Makes the first line of a log in `head`. Sets `has_callers` and, if callers are logged, the path `own_file`. */
 static void make_head(void)
 {
     const char *called = program_invocation_short_name, *wanted = getenv("MALLOC_LOG_CALLERS");
@@ -312,7 +318,7 @@ static void make_head(void)
         strcpy(own_file, "unknown");
 }
 
-/* The name is set last, so that nothing is logged before all is ready. */
+/* `name` is set last, so that nothing is logged before all else is ready. */
 __attribute__((constructor)) static void begin(void)
 {
     pthread_atfork(before_fork, after_fork_in_parent, after_fork_in_child);
@@ -326,7 +332,7 @@ __attribute__((constructor)) static void begin(void)
         strcpy(name, path);
 }
 
-/* The address to which a call of a function of this library returns. */
+/* In a function that a program calls, the address in the program to which the call returns. */
 #define CALLER __builtin_return_address(0)
 
 static void *resize(void *old, size_t bytes, void *caller)
@@ -334,11 +340,11 @@ static void *resize(void *old, size_t bytes, void *caller)
     log_free(old);
     void *at = __libc_realloc(old, bytes);
     if (!at && old && bytes)
-        log_malloc(old, malloc_usable_size(old), caller); /* refused: the old one stays */
+        log_malloc(old, malloc_usable_size(old), caller); /* the realloc failed: the old memory stays live */
     return log_malloc(at, bytes, caller);
 }
 
-/* Aligned memory is logged as a whole multiple of its alignment. */
+/* Logs the size of aligned memory rounded up to a multiple of the alignment. */
 static void *align(size_t alignment, size_t bytes, void *caller)
 {
     void *at = __libc_memalign(alignment, bytes);

@@ -4,7 +4,7 @@ const LEAST_DRAG = 4 // pixels of the picture: less is a click
 const PLAY_SECONDS = 12
 const MOST_TICKS = 10
 const TINY = 1e-6
-// How far above the foot of a band the words above its free frames are, and how far below the foot the numbers of its lines are.
+// Pixels from the foot of a band up to the words above its free frames, and down to the numbers of its lines.
 const ABOVE_FOOT = 61
 const BELOW_FOOT = 18
 
@@ -20,8 +20,8 @@ const playButton = document.getElementById('play')
 
 let view = { from: 0, to: WIDTH } // the part of the picture that is shown, in pixels of the whole
 let cursor = { column: 0, place: 0 } // the place is in pixels of the whole
-let drag = null // where a drag began, in pixels of the picture
-let playing = null // when and where playing began
+let drag = null // where a drag began, in pixels from the left of the columns; null if there is no drag
+let playing = null // when playing began, and at which place; null if it does not play
 
 /** Returns the figures of each column, by tenant, as framemap has written them. */
 function readTable(text) {
@@ -40,15 +40,15 @@ function create(parent, name, attributes) {
   return parent.appendChild(made)
 }
 
-/** Returns a band of the picture. Adds what is drawn over it: the cursor, the chosen part, and the figures at the cursor. */
+/** Returns the elements and the sizes of a band. Adds what is drawn over it: the cursor, the chosen part, and the figures. */
 function readBand(group) {
   const pane = group.querySelector('svg.window')
   const [y, height] = [pane.y.baseVal.value, pane.height.baseVal.value]
   const { tenant, top, bottom, row, frames } = group.dataset
   return {
     group, pane, y, height,
-    row: Number(row), // its height in pixels
-    frames: Number(frames), // of a row
+    row: Number(row), // the height of a row, in pixels
+    frames: Number(frames), // how many frames a row has
     tenant: Number(tenant),
     name: group.querySelector('.tenant').firstChild.data,
     top: Number(top),
@@ -62,8 +62,9 @@ function readBand(group) {
   }
 }
 
-/** Converts a place of the whole picture to where it is shown now, and back. */
+/** shownAt converts a place in the whole picture to where it is shown now. Both are in pixels from the left of the columns. */
 const shownAt = (place) => (place - view.from) / (view.to - view.from) * WIDTH
+/** placeAt converts where a place is shown now back to the place. */
 const placeAt = (x) => view.from + x / WIDTH * (view.to - view.from)
 
 function columnAt(place) {

@@ -11,24 +11,24 @@ INTERVAL = re.compile(r'# times every (\d{1,12}(?:\.\d{1,9})?) seconds')
 
 
 class Clock:
-    """When the lines of a trace were run. The lines after a remark ran at its time, or up to an interval later."""
+    """When the lines of a trace were run. The lines after a remark of the time ran at that time, or up to an interval later."""
 
     def __init__(self):
-        self.lines, self.times, self.interval = [], [], None    # the lines that have a remark, and their seconds
+        self.lines, self.times, self.interval = [], [], None    # of each remark: its line and its seconds
 
     def add(self, line, time):
-        """Adds the remark of a line. Returns whether it is no earlier than the one before."""
+        """Adds a remark of the time. Returns false if its time is earlier than the time of the remark before it."""
         self.lines.append(line)
         self.times.append(time)
         return len(self.times) == 1 or time >= self.times[-2]
 
     def read(self, line):
-        """Returns the time of the last remark at this line or before it, or else of the first one."""
+        """Returns the time of the last remark at this line or before it, or the time of the first remark if all come later."""
         return self.times[max(bisect.bisect_right(self.lines, line) - 1, 0)]
 
     def place(self, line, last):
-        """Returns about when the line was run. The lines after a remark are spread evenly over its interval, or over the time to
-        the next remark if that is shorter. The trace ends with line `last`."""
+        """Returns an estimate of when the line was run, in seconds. The lines from a remark to the next one are spread evenly
+        over an interval, or over the time between the two remarks if that is shorter. The trace ends with line `last`."""
         at = bisect.bisect_right(self.lines, line) - 1
         if at < 0:
             return self.times[0]
@@ -40,7 +40,7 @@ class Clock:
 
 
 class Remarks:
-    """The sizes, the names by tenant and the clock of a trace."""
+    """What the comments of a trace say: the sizes of the machine, the name of each tenant, and the times."""
 
     def __init__(self, path):
         self.sizes, self.names, self.clock = None, {}, Clock()

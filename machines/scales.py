@@ -4,16 +4,16 @@ from summary import FRAME
 
 WIDTH = 1200        # how wide all columns are together
 MOST_TICKS = 10     # numbers on an axis
-PARTS = 100         # of a pixel, to which places on an axis of time are rounded
+PARTS = 100         # places on an axis of time are rounded to 1/PARTS pixel
 
 
 def plain(number):
-    """Returns a number without zeroes at its end."""
+    """Returns a number as text, with at most three decimals and no zeroes at the end of them."""
     return f'{number:.3f}'.rstrip('0').rstrip('.')
 
 
 class Unit:
-    """The unit in which bytes are shown: MiB, or KiB if no tenant has 2 MiB."""
+    """The unit in which bytes are shown: MiB if `frames`, the most that a tenant ever holds, are 2 MiB or more, or else KiB."""
 
     def __init__(self, frames):
         self.name, self.bytes = ('MiB', 1 << 20) if frames * FRAME >= 2 << 20 else ('KiB', 1 << 10)
@@ -22,12 +22,12 @@ class Unit:
         return plain(frames * FRAME / self.bytes)
 
     def share(self, frames, whole):
-        """Returns a text that says how much of `whole` frames `frames` frames are, in bytes, to a tenth of the unit."""
+        """Returns the text `X of Y UNIT`: the bytes of `frames` and of `whole` frames, each rounded to a tenth of the unit."""
         return f'{plain(round(frames * FRAME / self.bytes, 1))} of {plain(round(whole * FRAME / self.bytes, 1))} {self.name}'
 
 
 def step_of(whole):
-    """Returns the least number of the form 1, 2 or 5 times a power of ten that fits at most MOST_TICKS times into this one."""
+    """Returns the least number of the form 1, 2 or 5 times a power of ten that fits at most MOST_TICKS times into `whole`."""
     power = -9
     while True:
         for step in (1, 2, 5):
@@ -37,7 +37,8 @@ def step_of(whole):
 
 
 class Axis:
-    """Where the columns lie, as `edges` from 0 to WIDTH, and what the numbers below them mean."""
+    """The horizontal axis. Column c is between `edges[c]` and `edges[c + 1]`, in pixels from the left of the columns. The numbers
+    below the columns go from `begin` to `end`, and `name` says what they count."""
 
     def __init__(self, lines, width, clock=None):
         count, self.by_time = len(lines), clock is not None
@@ -45,7 +46,8 @@ class Axis:
             begin, end = clock.times[0], clock.place(lines[-1], lines[-1]) if lines else 0
             if not end > begin:
                 tenants.fail('no time passes in the trace: draw it by lines')
-            # Two columns meet halfway between the times of their lines, so a pause does not show only what was run after it.
+            # A column shows the state after its last line. Two columns meet at the time of the line halfway between their last
+            # lines, so a pause is not drawn only with the state after it.
             places = [clock.place((line + after) / 2, lines[-1]) for line, after in zip(lines, lines[1:])]
             self.edges = [0, *((place - begin) / (end - begin) * WIDTH for place in places), WIDTH]
             self.name, self.begin, self.end = 'seconds', begin, end
@@ -54,7 +56,7 @@ class Axis:
             self.name, self.begin, self.end = 'line', 0, width * count
 
     def place(self, column):
-        """Returns where a column begins, in units of the paths."""
+        """Returns where a column begins, in the units of the paths: columns, or 1/PARTS pixels if the axis is time."""
         return round(self.edges[column] * PARTS) if self.by_time else column
 
     def scale(self, plain_scale):

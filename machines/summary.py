@@ -1,5 +1,5 @@
-"""The summary that from-kmem and from-malloc print of each tenant on standard error: first what it used, then what it requested,
-and last what any load with as many blocks and objects needs, by docs/capacity.md."""
+"""The summary that from-kmem and from-malloc print for each tenant on standard error. It says what the tenant used, then what it
+requested, and then, by docs/capacity.md, how many superblocks are enough for any load with as many blocks and objects."""
 import collections
 import sys
 
@@ -12,7 +12,7 @@ def plural(noun, count):
 
 
 def visible(text):
-    """Returns the text on one line, without control characters: these and backslashes are escaped."""
+    """Returns the text with each backslash, and each character that is not printable, escaped. So it is one line."""
     return ''.join(it if it.isprintable() and it != '\\' else it.encode('unicode_escape').decode() for it in text)
 
 
@@ -25,18 +25,18 @@ def heading(text):
 
 
 class Used:
-    """What a tenant has, and the most that it had at a time. A slab without live objects does not count: it is freed on
-    demand."""
+    """What a tenant has now, and the most that it had at a time. A slab without live objects does not count, since it is freed
+    when its frames are needed."""
 
     def __init__(self):
         self.slots = self.largest = 0                   # the most slots, and the frames of the largest block
         self.frames = self.in_slabs = self.asked = 0    # frames taken now, those in slabs, requested bytes of live objects
-        self.most = 0, 0, 0                             # these at the time with most frames, and of such times with most bytes
+        self.most = 0, 0, 0                             # these three when `frames` was greatest; at a tie, when `asked` was
         self.objects = collections.Counter()            # the live objects of each slab, by its first frame
 
     def note(self, slots, frames):
-        """Notes what the tenant has after a request was met, by blocks of at most this number of frames. Refused requests are not
-        noted: they have their blocks only for a moment."""
+        """Notes what the tenant has after a request was met. The largest block that met it has `frames` frames. Refused requests
+        are not noted, since the blocks that they got are freed at once."""
         if slots > self.slots:
             self.slots = slots
         if frames > self.largest:
@@ -69,7 +69,7 @@ class Used:
 
 
 def tell_used(used, refused, order):
-    """Prints what was used. The bytes of slabs that were not requested count as lost."""
+    """Prints what was used. Bytes of slabs that are not requested bytes of a live object count as lost."""
     frames, in_slabs, asked = used.most
     heading('used')
     row(used.slots, f'{plural("slot", used.slots)} of {2**order} frames at most')
@@ -82,13 +82,13 @@ def tell_used(used, refused, order):
 
 
 def bits(size):
-    """Returns the exponent of the least power of two that is no less than a size. Sizes up to 16 count as 16."""
+    """Returns the exponent of the least power of two that is at least a size. Sizes up to 16 count as 16."""
     return max((size - 1).bit_length(), LEAST_BITS)
 
 
 def tell_sizes(sizes):
-    """Prints a histogram of the requested sizes: for each power of two, how many sizes are at most this power and above half of
-    it."""
+    """Prints a histogram of the requested sizes: for each power of two, how many requests were for at most this power and more
+    than half of it. `sizes` has these numbers by exponent."""
     if not sizes:
         return
     heading('requested sizes, in bytes')
@@ -99,7 +99,8 @@ def tell_sizes(sizes):
 
 
 def tell_needs(blocks, order):
-    """Prints how many superblocks are enough, by docs/capacity.md, for any load with as many blocks of each order at a time."""
+    """Prints how many superblocks are enough, by docs/capacity.md, for any load that never has more blocks at a time than
+    `blocks`, a list of (order, number of blocks), has of each order."""
     frames = sum(count * 2**block for block, count in blocks)
     heading('for any load with at most as many blocks and objects at a time')
     row(frames, f'{plural("frame", frames)} {"holds" if frames == 1 else "hold"} them')
@@ -112,7 +113,7 @@ def tell_needs(blocks, order):
 
 
 def tell(tenant, larger):
-    """Prints the summary of a tenant. `larger` says how a larger machine can be requested, if there is one."""
+    """Prints the summary of a tenant. `larger` names the options of a larger machine, or is empty if there is no larger one."""
     refused = sum(count for what, count in tenant.told.items() if 'refused' in what)
     tell_used(tenant.used, refused, tenant.machine.order)
     heading('requested')

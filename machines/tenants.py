@@ -1,5 +1,5 @@
 """What from-kmem and from-malloc share: tenants that request page blocks and objects from a running partmem, and write each line
-that they send. They know nothing of how memory is laid out: partmem's reply says where a thing lies, or that no memory is left.
+that they send as a trace. Where a block or an object lies, and whether memory is left, they only learn from partmem's replies.
 """
 import argparse
 import collections
@@ -20,8 +20,8 @@ GREATEST_OBJECT = 4096
 CACHES = 32
 ORDERS, MOST_TENANTS = range(3, 9), 64
 MOST_CHARACTERS = 1 << 17   # of a line; malloc_log.c leaves up to half as many zeroes after the last line
-MOST_BYTES, BYTES_BEGUN = 255, 100  # of a line of a trace; of a name that is cut, before the cut
-SECOND, MOST_TIMES = 10**9, 100     # in nanoseconds; remarks of the time in a trace
+MOST_BYTES, BYTES_BEGUN = 255, 100  # the most bytes of a line of a trace; the bytes of a too long name that come before its cut
+SECOND, MOST_TIMES = 10**9, 100     # a second in nanoseconds; about how many remarks of the time a trace has at most
 AGAIN = 'given again without a free between: given back first'
 
 
@@ -46,7 +46,8 @@ def arguments(description):
 
 
 def checked(given):
-    """Returns the arguments if a machine can have them, or else fails. With --largest the logs become the largest files."""
+    """Returns the arguments. Fails if no machine has these sizes, or if there is no partmem to run. With --largest, replaces the
+    logs by the largest ones."""
     if given.order not in ORDERS:
         fail(f'--order {given.order}: the order of a superblock is {ORDERS[0]} to {ORDERS[-1]}', 2)
     if not 1 <= given.superblocks <= MOST_SUPERBLOCKS:
@@ -63,7 +64,8 @@ def checked(given):
 
 
 def size_of_text(path):
-    """Returns the bytes of a file without the zeroes at its end."""
+    """Returns the size of a file in bytes, not counting up to MOST_CHARACTERS zeroes at its end; or 0 if it is no
+    regular file."""
     status = os.stat(path)
     if not stat.S_ISREG(status.st_mode):
         return 0
@@ -73,7 +75,7 @@ def size_of_text(path):
 
 
 def files_of(path):
-    """Returns the path with its size. If it is a folder, returns its files with their sizes."""
+    """Returns a list of (path, size): the files in `path` if it is a folder, or else `path` alone."""
     try:
         found = [entry.path for entry in os.scandir(path) if entry.is_file()] if os.path.isdir(path) else [path]
         return [(it, size_of_text(it)) for it in found]
@@ -82,7 +84,7 @@ def files_of(path):
 
 
 def largest(paths, most):
-    """Returns the largest logs, at most this number."""
+    """Returns the paths of the `most` largest logs, or of all if there are fewer. A folder among `paths` counts as its files."""
     files = {it: size for path in paths for it, size in files_of(path)}
     if not files:
         fail(f'{" ".join(paths)} has no file')
@@ -94,8 +96,8 @@ def reason(problem):
 
 
 def lines_in(file, path):
-    """Yields the lines of a file with their numbers. Refuses a line that is longer than any log has, before it fills the
-    memory."""
+    """Yields (number, line) for each line of a file. Fails at a line of more than MOST_CHARACTERS characters, before all of it is
+    read into memory."""
     for at, line in enumerate(iter(lambda: file.readline(MOST_CHARACTERS + 1), ''), 1):
         if len(line) > MOST_CHARACTERS:
             fail(f'{path} line {at}: it has more than {MOST_CHARACTERS} characters')
@@ -103,8 +105,8 @@ def lines_in(file, path):
 
 
 def lines_of(path):
-    """Yields the lines of a log with their numbers. Bytes that are not UTF-8 are replaced. They are only in names, which need not
-    be exact."""
+    """Yields (number, line) for each line of a log. Bytes that are not UTF-8 are replaced: only names may have any, and names
+    need not be exact."""
     try:
         mode = os.stat(path).st_mode
         if not stat.S_ISREG(mode):
@@ -133,13 +135,14 @@ def flush(what='the trace'):
 
 
 def cannot_write(problem, what):
-    """Ends the program, without another attempt to write what is buffered."""
+    """Reports that `what` cannot be written, and ends the program. What is still buffered goes to /dev/null, so that Python does
+    not try to write it once more."""
     os.dup2(os.open(os.devnull, os.O_WRONLY), sys.stdout.fileno())
     fail(f'cannot write {what}: {reason(problem)}')
 
 
 def remark(number, name):
-    """Returns the line that names a tenant. If a name is too long, its middle is left out."""
+    """Returns the comment line of a trace that names a tenant. If the name is too long for a line, its middle is left out."""
     begin, shown = f'# tenant {number} is ', visible(name).encode()
     most = MOST_BYTES - len(begin)
     if len(shown) > most:
@@ -158,12 +161,12 @@ def interval_of(time):
 
 
 def seconds(time):
-    """Returns a time in seconds, with as many decimals as it needs."""
+    """Returns a time in nanoseconds as text, in seconds, with as many decimals as it needs."""
     return f'{time // SECOND}.{time % SECOND:09}'.rstrip('0').rstrip('.')
 
 
 class Clock:
-    """Writes into the trace how much time has passed since the first event, once in each interval."""
+    """Writes into the trace how much time has passed since the first event, once in each interval that has an event."""
 
     def __init__(self, longest):
         self.interval, self.start, self.next = interval_of(longest), None, float('-inf')
@@ -179,8 +182,8 @@ class Clock:
 
 
 class Survey:
-    """What a first reading of a log finds: how often it requests each size, the time of its first event, and the greatest
-    time."""
+    """What a first reading of a log finds: how often it requests each size (as `size_of` returns it), the time of its first
+    event, and the latest time of an event."""
 
     def __init__(self, events, size_of):
         self.counts, first, most = collections.Counter(), None, 0
@@ -203,8 +206,9 @@ def longest(surveys, together):
 
 
 def merged(counts, most):
-    """Returns for each size the size that is used instead, so that at most `most` sizes are used. It merges a size into the next
-    one, first where that wastes least memory: the number of requests of a size times its distance to the next one."""
+    """Returns, for each size, the size that is used instead, so that at most `most` sizes are used. `counts` says how often each
+    size is requested. Each step merges one size into the next greater one. It is the size for which this wastes least: its number
+    of requests times its distance to the next size."""
     kept = dict(counts)
     while len(kept) > most:
         sizes = sorted(kept)
@@ -243,8 +247,8 @@ class Machine:
         return None if words[1] in ('1', '13', '15') else fail(f'partmem answered "{line}" by "{" ".join(words)}"')
 
     def grant(self, tenant):
-        """Returns whether the tenant got a superblock. If none is left, another tenant has to give up one that it does not
-        use."""
+        """Grants the tenant a superblock, and returns whether it got one. If none is left, first takes an unused slot from
+        another tenant that has one."""
         line = f'admin grant {tenant.number}'
         words = self.ask(line)
         if not words and any(other.take_back(1) for other in self.tenants if other is not tenant):
@@ -263,8 +267,9 @@ class Machine:
 
 
 class Part(typing.NamedTuple):
-    """A block or an object of a thing: the line that gives it back, the line that requested it, the first frame of its block or
-    of its slab, and for an object the requested bytes."""
+    """A page block or an object that partmem gave for an allocation in a log: the line that gives it back, the line that
+    requested it, the first frame of the block or of the object's slab, and the requested bytes of an object, or None for a
+    block."""
     back: str
     asked: str
     frame: int
@@ -272,17 +277,17 @@ class Part(typing.NamedTuple):
 
 
 class Tenant:
-    """What one log requests. `counts` says how often it requests each size up to GREATEST_OBJECT."""
+    """A tenant that makes the requests of one log. `counts` says how often it requests each size up to GREATEST_OBJECT."""
 
     def __init__(self, machine, counts):
         self.machine, self.number = machine, len(machine.tenants)
         machine.tenants.append(self)
         self.slots = {}     # how many blocks and objects lie in each slot that is held
-        self.things = {}    # by name: the parts of each thing
+        self.things = {}    # the parts of each live allocation of the log, by its name: a pointer or a block of pages
         self.told, self.used = collections.Counter(), summary.Used()
         self.sizes = collections.Counter()      # how often each size was requested, by summary.bits
-        self.live, self.most = collections.Counter(), collections.Counter()     # what each line allocated, now and at most
-        self.blocks = {}    # by line: the order of the block or slab that it needs, and how many of its kind fit into one
+        self.live, self.most = collections.Counter(), collections.Counter()     # by line: its live parts, now and at most
+        self.blocks = {}    # by line: the order of its page blocks, and 1; or the order of its slabs, and the objects of a slab
         stands_for = merged(counts, CACHES)
         sizes = sorted(set(stands_for.values()))
         self.cache_of = {size: sizes.index(stands_for[size]) for size in counts}
@@ -291,8 +296,8 @@ class Tenant:
             self.blocks[f'{self.number} take {cache}'] = int(words[5]), int(words[7])
 
     def request(self, line):
-        """Sends a request. If it is refused, the tenant is granted a superblock if one is left, and sends it again. Returns the
-        frame or place of the reply, or None."""
+        """Sends a request. If it is refused and the tenant can be granted a superblock, sends it again. Returns the frame or the
+        place in the reply, or None if the request was refused."""
         words = self.machine.ask(line)
         if not words and self.machine.grant(self):
             words = self.machine.ask(line)
@@ -309,7 +314,7 @@ class Tenant:
         parts.append(part)
 
     def note(self, parts):
-        """Notes what the tenant has, now that a request was met by these parts."""
+        """Notes what the tenant has, after a request was met by these parts. Does nothing if there are none."""
         for part in parts:
             if self.live[part.asked] > self.most[part.asked]:
                 self.most[part.asked] = self.live[part.asked]
@@ -332,8 +337,8 @@ class Tenant:
         self.told['objects taken' if parts else 'objects refused for want of frames'] += 1
 
     def alloc(self, name, frames):
-        """Allocates page blocks with this number of frames: whole slots as long as more than a slot is left, and then the
-        smallest block that is enough."""
+        """Allocates page blocks with at least this number of frames together. While more than a slot's frames are missing, a
+        block is a whole slot; the last block is the smallest that is enough. If a block is refused, frees those before it."""
         self.give(name, AGAIN)
         parts = self.things.setdefault(name, [])
         while frames > 0:
@@ -351,7 +356,7 @@ class Tenant:
         self.told['page blocks allocated' if self.things[name] else 'page blocks refused for want of frames'] += 1
 
     def give(self, name, what=None):
-        """Gives the thing of this name back, if there is one. Returns whether there was."""
+        """Gives back all parts of the allocation with this name, and counts that as `what`. Returns whether there was one."""
         if name not in self.things:
             return False
         if what:
@@ -373,9 +378,9 @@ class Tenant:
             self.take_back(2)
 
     def take_back(self, least):
-        """Gives up the last of the unused slots, and any empty slabs in it, if at least `least` slots are unused. Returns whether
-        it did. A tenant keeps one unused slot as long as nobody is short. Otherwise it would be granted and taken back again and
-        again."""
+        """Gives up the unused slot with the greatest number if at least `least` slots are unused. If an empty slab is in that
+        slot, the tenant first reaps all its empty slabs. Returns whether a slot was given up. A tenant keeps one unused slot as
+        long as no other tenant needs one. Otherwise a slot would be granted and taken back again and again."""
         spare = [slot for slot, things in self.slots.items() if things == 0]
         if len(spare) < least:
             return False
@@ -390,23 +395,25 @@ class Tenant:
         self.sizes[summary.bits(asked)] += 1
 
     def tell_more(self):
-        """Prints what else is known of the load, in the summary."""
+        """Prints more about the load, in the summary. Prints nothing unless a subclass does."""
 
     def most_blocks(self):
-        """Returns the most blocks of each order at a time. A cache never has more slabs than its most objects fill."""
+        """Returns a list of (order, the most blocks of this order at a time): one pair for each order of page blocks, and one for
+        the slabs of each cache. A cache makes a slab only when all its others are full, so it never has more slabs than its most
+        live objects fill."""
         return [(order, -(-self.most[line] // things)) for line, (order, things) in self.blocks.items() if self.most[line]]
 
 
 def larger(given):
-    """Returns the words that advise the options of a larger machine; they are empty if there is none."""
+    """Returns the words that name the options of a larger machine, or no words if there is no larger one."""
     more = 'more --superblocks, ' if given.superblocks < MOST_SUPERBLOCKS else ''
     return more + ('a larger --order, ' if given.order < ORDERS[-1] else '')
 
 
 def convert(given, read, size_of, kind, name_of=str):
-    """Reads each log twice: first alone, to check it and to find the sizes that it requests, and then together with the others,
-    merged by time. Each log is a tenant of class `kind`, which applies its events. The trace and the summary name it as `name_of`
-    says."""
+    """Writes the trace and the summary of the logs. Reads each log twice: first alone, to check it and to find the sizes that it
+    requests, and then together with the others, merged by time. Each log is a tenant of class `kind`, which applies the log's
+    events. `name_of` returns the name of the tenant from the path of its log."""
     sys.stdout.reconfigure(encoding='utf-8')
     surveys, names = [Survey(read(path), size_of) for path in given.logs], [name_of(path) for path in given.logs]
     machine = Machine(given)
