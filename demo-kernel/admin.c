@@ -1,17 +1,17 @@
-/* The administrator. In all worlds partition 0 gets and loses the same slots, at the same points of its own run. Everything else
- * may differ. */
+/* The administrator. In all worlds partition 0 gets and loses the same slots, at the same points of its own run. All else that
+ * the administrator does may differ. */
 #include "kernel.h"
 
-/* The words of the boot line, NAME=VALUE. */
+/* What the words NAME=VALUE of the boot line say. */
 static bool is_noisy;
-static unsigned ticks_between; /* from one act of the administrator to the next */
-static unsigned most_ticks;    /* that partition 0 may take; if it takes more, the world ends as starved */
+static unsigned ticks_between; /* the ticks from one act of the administrator to the next, at least */
+static unsigned most_ticks;    /* if partition 0 runs for more ticks, the world ends as starved */
 static uint64_t state;         /* of the pseudo-random numbers */
 unsigned ticks_per_second, ticks_a_turn;
 
-static uint64_t acted_at;
-static unsigned moves;        /* of slots of partition 0 */
-static uint64_t longest_move; /* in instructions, without printing */
+static uint64_t acted_at;     /* the tick of the last act */
+static unsigned moves;        /* how often a slot of partition 0 was moved */
+static uint64_t longest_move; /* the instructions of the longest of these moves, without printing */
 
 /* Returns a pseudo-random number below `below`. */
 static unsigned draw(unsigned below)
@@ -20,7 +20,7 @@ static unsigned draw(unsigned below)
     return (unsigned)(state >> 33) % below;
 }
 
-/* Returns the rest of a text that begins with this word, or NULL if it does not. */
+/* Returns what follows `word` at the beginning of a text, or NULL if the text does not begin with `word`. */
 static const char *behind(const char *text, const char *word)
 {
     while (*word && *text == *word) text++, word++;
@@ -81,8 +81,8 @@ void administer_at_start(void)
     start_1();
 }
 
-/* Takes all memory from partition 1, which has filled it, and grants partition 0 the first superblock that partition 1 had. Free
- * superblocks before that one go to RESERVE meanwhile, since a grant takes the first free one. */
+/* Takes all memory from partition 1, which has filled it, and grants partition 0 the first superblock that partition 1 had. Until
+ * then RESERVE holds the free superblocks before that one, since a grant takes the first free superblock. */
 static void hand_over(void)
 {
     uint32_t next = 0;
@@ -95,8 +95,8 @@ static void hand_over(void)
     start_1();
 }
 
-/* Does what partition 0 waits for: grants it a superblock at meeting 1, takes it back at meeting 2, and grants another one at
- * meeting 3. In a noisy world meeting 1 lasts until partition 1 has filled its memory. */
+/* Does what partition 0 waits for: grants it a superblock at meeting 1, takes slot 1 back at meeting 2, and grants it a
+ * superblock again at meeting 3. In a noisy world meeting 1 lasts until partition 1 has filled its memory. */
 static void serve_meeting(void)
 {
     if (meeting_of(0) == 2) take_back(0, 1);
@@ -116,7 +116,8 @@ static void move_0(uint32_t slot)
     if (is_moved && taken > longest_move) longest_move = taken;
 }
 
-/* Does something at random that partition 0 must not notice. */
+/* At random moves a slot of either partition, changes how many slots partition 1 has, or resets partition 1. Partition 0 must not
+ * notice. */
 static void act(void)
 {
     partmem_slot granted;

@@ -1,6 +1,6 @@
-/* The entry by multiboot, long mode, the stubs of traps, and the return to a partition. */
+/* The entry from a multiboot loader, the switch to long mode, the stubs of traps, and the return to a partition. */
         .set    MAGIC, 0x1badb002
-        .set    FLAGS, 0x00010002               /* the address fields are valid; the size of memory is wanted */
+        .set    FLAGS, 0x00010002               /* the address fields are valid; the loader has to give the size of memory */
         .section .boot, "awx"
         .align  4
 header: .long   MAGIC, FLAGS, -(MAGIC + FLAGS)
@@ -10,7 +10,7 @@ header: .long   MAGIC, FLAGS, -(MAGIC + FLAGS)
         .globl  enter
 enter:  cli
         movl    $kernel_stack_top, %esp
-        movl    %ebx, %ebp                      /* the loader's information */
+        movl    %ebx, %ebp                      /* the address of the loader's information */
         /* The kernel has the first GiB at its physical addresses, in pages of 2 MiB that user mode cannot reach. */
         xorl    %ecx, %ecx
 1:      movl    %ecx, %eax
@@ -112,7 +112,7 @@ enter_kernel:
         pushq   %rax
         movl    %gs, %eax
         pushq   %rax
-        pushq   $2                              /* a user's direction, alignment and nested-task flags are cleared (duty 9) */
+        pushq   $2                              /* clears a user's flags: direction, alignment check, nested task (duty 9) */
         popfq
         movq    %rsp, %rdi
         call    trap
@@ -144,7 +144,7 @@ resume: movq    %rdi, %rsp                      /* resume(registers) */
         addq    $16, %rsp
         iretq
 
-        /* The entries of the programs. Their addresses are too large for code of the small model. */
+        /* The entries of the programs. C code of the small model cannot contain such large addresses. */
         .section .rodata
         .globl  user_entries
 user_entries:

@@ -6,7 +6,7 @@
  * The duties of partmem.h, and the functions that keep them:
  *
  *      1 Machine         set_up_memory: the one machine is a static variable that only the library uses
- *      2 Arguments       store_in_object: bytes are copied from the kernel's stack; no argument lies in lent bytes
+ *      2 Arguments       store_in_object: bytes are copied from variables of the kernel; no argument lies in lent bytes
  *      3 Memory          set_up_memory: RAM and tables are two regions that nothing else uses
  *      4 Bounds          store_in_object: a store ends where the object ends
  *      5 Endings         move_slot, lent_object: after a move the blocks are mapped again; no address of an object is kept
@@ -31,10 +31,10 @@
 #include "sizes.h"
 
 enum {
-    FRAMES = SUPERBLOCKS << ORDER, /* of a tenant, at most */
+    FRAMES = SUPERBLOCKS << ORDER, /* the most frames that a tenant can have */
     PARTITIONS = 2,
     RESERVE = PARTITIONS, /* a tenant without a program, for superblocks that the administrator keeps */
-    THREADS = 4,          /* of a partition, at most */
+    THREADS = 4,          /* the most threads of a partition */
 };
 
 /* The RAM of partitions. */
@@ -47,7 +47,7 @@ struct registers {
     uint64_t vector, error, rip, cs, rflags, rsp, ss;
 };
 
-/* Mistakes that can be planted in the kernel by `fault=NAME` on the boot line, to see that they are detected. */
+/* Mistakes that `fault=NAME` on the boot line plants in the kernel, to show that the checks of demo-kernel/run see them. */
 enum planted { NO_FAULT, NO_WRITE_OUT, NO_FLUSH, NO_REMAP, NO_VECTORS, NO_SELECTORS, NO_FLAGS, SLAB_MAPPED, FREED_FIRST,
                OTHER_ADDRESS };
 
@@ -60,7 +60,7 @@ _Noreturn void panic(const char *why);
 
 static inline void out(uint16_t port, uint8_t value) { __asm__ volatile("outb %0, %1" : : "a"(value), "Nd"(port)); }
 
-/* Returns the time stamp. QEMU counts one for each instruction with `-icount shift=0`. */
+/* Returns the time stamp. With `-icount shift=0` QEMU adds one to it for each instruction. */
 static inline uint64_t stamp(void)
 {
     uint32_t low, high;
@@ -69,7 +69,7 @@ static inline uint64_t stamp(void)
 }
 
 /* text.c: what the kernel prints, and memory functions for the compiler and the library */
-extern uint64_t printing; /* the instructions of print and print_bytes since it was last set to 0 */
+extern uint64_t printing; /* the time stamps spent in print and print_bytes since it was set to 0 */
 __attribute__((format(printf, 1, 2))) void print(const char *format, ...); /* %s, %u and %lu */
 void print_bytes(const void *from, size_t bytes);
 void flush(void);

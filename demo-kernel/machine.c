@@ -17,8 +17,9 @@ static void set_gate(unsigned vector, const char *stub, uint8_t stack, uint8_t k
     gates[vector] = (struct gate){(uint16_t)at, 0x08, stack, kind, (uint16_t)(at >> 16), (uint32_t)(at >> 32), 0};
 }
 
-/* Sets up interrupt gates, so interrupts are off in the kernel and one call of the library runs at a time (duty 8). The traps
- * that can still interrupt the kernel have their own stack, since the library uses 128 bytes below its stack pointer (duty 9). */
+/* Sets up gates that turn interrupts off, so one call of the library runs at a time in the kernel (duty 8). NMI, double fault and
+ * machine check can still interrupt the kernel. They have their own stack, since the library uses 128 bytes below its stack
+ * pointer (duty 9). */
 static void set_up_gates(void)
 {
     for (unsigned vector = 0; vector < 48; vector++)
@@ -39,7 +40,7 @@ static void check_processor(void)
     if ((c & wanted) != wanted) panic("the library requires x86-64-v2");
 }
 
-/* Makes user mode unable to read the time. If the processor can do it, makes the kernel unable to run or access pages of user
+/* Forbids user mode to read the time stamp. If the processor can do so, also forbids the kernel to run or access pages of user
  * mode. */
 static void protect(void)
 {

@@ -35,8 +35,8 @@ void end_memory(void)
 
 enum { ADMIN = TENANTS };
 
-/* If a call was refused to a tenant or the administrator, prints the refusal and returns true. A status that says that the call
- * was wrong ends the kernel. */
+/* Returns false if the call of tenant `who`, or of ADMIN, was done. If it was refused, prints the refusal and returns true. If
+ * the status is an error and no refusal, ends the kernel. */
 static bool is_refused(unsigned who, partmem_status status)
 {
     static char name[32];
@@ -52,16 +52,17 @@ static bool is_refused(unsigned who, partmem_status status)
 
 /* ---- Page blocks -------------------------------------------------------------------------------------------------------- */
 
-/* Maps a block as partmem_alloc or partmem_lend_block returned it, so it maps no slab, free frame or other superblock (duty
- * 11). */
+/* Maps a block that partmem_alloc or partmem_lend_block has returned. So no slab, no free frame and no bytes of another
+ * superblock are mapped (duty 11). */
 static void map_block(unsigned t, partmem_lent block)
 {
     uint8_t *at = block.at;
-    if (planted == OTHER_ADDRESS && t == 0 && block.place) at = RAM + ((at - RAM) ^ SUPERBLOCK); /* not for the first stack */
+    if (planted == OTHER_ADDRESS && t == 0 && block.place) at = RAM + ((at - RAM) ^ SUPERBLOCK); /* place 0 is the first stack */
     map(t, block.place, at, block.bytes);
 }
 
-/* The planted fault NO_WRITE_OUT: uses the address of the superblock instead of a lend. */
+/* Plants the mistake NO_WRITE_OUT: allocates a block without a lend, and computes its address from the superblock's. So old bytes
+ * of the superblock may still be there. */
 static partmem_status alloc_without_lend(unsigned t, uint32_t order, partmem_lent *block)
 {
     const partmem_request request = {PARTMEM_ALLOC, t, order, 0};
@@ -89,7 +90,7 @@ partmem_status alloc_block(unsigned t, uint32_t order, uint32_t *frame)
     return PARTMEM_DONE;
 }
 
-/* Unmaps the block, and then frees it (duty 12). */
+/* Unmaps the block that begins at a frame, and then frees it (duty 12). */
 partmem_status free_block(unsigned t, uint32_t frame)
 {
     partmem_lent block = {0};
@@ -130,7 +131,8 @@ partmem_status take_object(unsigned t, uint32_t cache, uint32_t *place)
     return PARTMEM_DONE;
 }
 
-/* The place comes from a user. The library refuses every place at which no object of this cache begins (duty 7). */
+/* Gives an object back. The place may come from a user: the library refuses each place at which no object of this cache begins
+ * (duty 7). */
 partmem_status drop_object(unsigned t, uint32_t cache, uint32_t place)
 {
     partmem_status status = partmem_give(tenant_of(t), cache, place);
@@ -140,10 +142,12 @@ partmem_status drop_object(unsigned t, uint32_t cache, uint32_t place)
     return PARTMEM_DONE;
 }
 
-/* Returns the address of a live object, or NULL. It is used before the next call of the library, and not kept (duty 5). */
+/* Returns the address of a live object, or NULL if no object of the cache begins at the place. Use the address before the next
+ * call that could move or free the object, and do not store it (duty 5). */
 const void *lent_object(unsigned t, uint32_t cache, uint32_t place) { return partmem_object_at(tenant_of(t), cache, place); }
 
-/* Copies bytes of the kernel's stack into an object, not beyond its end (duties 2 and 4). */
+/* Copies bytes of the kernel's own memory, usually its stack, into an object. Ends the kernel if they would go beyond the
+ * object's end (duties 2 and 4). */
 void store_in_object(unsigned t, uint32_t cache, uint32_t place, uint32_t offset, const void *from, uint32_t bytes)
 {
     partmem_lent object;
@@ -200,7 +204,7 @@ static void map_slot(unsigned t, uint32_t slot)
     }
 }
 
-/* Moves a slot of a running partition. The slot's pages are unmapped meanwhile (duty 12). */
+/* Moves a slot of a running partition. During the move the pages of the slot are not mapped (duty 12). */
 bool move_slot(unsigned t, uint32_t slot)
 {
     partmem_slot moved;
@@ -213,7 +217,7 @@ bool move_slot(unsigned t, uint32_t slot)
     return true;
 }
 
-/* When a take-back is done, nothing of the slot is mapped: the library refuses it while a page block is in the slot. */
+/* Takes a slot back. It need not unmap anything: the library refuses the take-back if a page block is in the slot. */
 bool take_back(unsigned t, uint32_t slot)
 {
     partmem_slot found = {0};
@@ -226,7 +230,7 @@ bool take_back(unsigned t, uint32_t slot)
     return true;
 }
 
-/* Ends the partition, unmaps all that it has, and takes it back (duties 12 and 13). */
+/* Takes back all memory of a tenant. If the tenant is a partition, first ends it and unmaps all its places (duties 12 and 13). */
 void reset(unsigned t)
 {
     unsigned slots = slots_of(t);
@@ -252,7 +256,7 @@ unsigned slots_of(unsigned t)
     return slots;
 }
 
-/* Counts the bytes that are not 0 in a superblock, whoever owns it. */
+/* Returns how many bytes of a superblock are not 0. It need not have an owner. */
 uint64_t bytes_not_zero(uint32_t superblock)
 {
     const uint8_t *at = partmem_superblock_address(&machine, superblock);

@@ -1,4 +1,4 @@
-/* Page tables. The kernel's GiB is in all address spaces. A tenant's page blocks are only in its own. */
+/* Page tables. The kernel's GiB is mapped in all address spaces. A tenant's page blocks are mapped only in the tenant's own. */
 #include "kernel.h"
 
 enum { PRESENT = 1, WRITABLE = 2, USER = 4, TABLES = (FRAMES + 511) / 512 };
@@ -16,7 +16,7 @@ static unsigned entered = PARTITIONS; /* the partition whose address space is in
 static uint64_t entry_of(const void *at, unsigned rights) { return (uint64_t)at | PRESENT | rights; }
 
 /* Unmaps the page below the kernel's stack, so that an overflow causes a double fault, whose handler has its own stack (duty 9).
- * Fills the stack with a pattern, which later shows how much of it was used. */
+ * Fills the unused part of the stack with 0xcc, so that stack_used can find how much of it was ever used. */
 static void guard_stack(void)
 {
     for (volatile uint8_t *at = kernel_guard + FRAME; at < (uint8_t *)__builtin_frame_address(0) - 128; at++) *at = 0xcc;
@@ -56,7 +56,8 @@ void map(unsigned t, uint32_t place, void *at, uint32_t bytes)
         *page_of(t, place + b) = entry_of((uint8_t *)at + b, WRITABLE | USER) | NOT_EXECUTABLE;
 }
 
-/* Unmaps a range, and flushes it from the TLB. An address space that is not in use is flushed when it is entered. */
+/* Unmaps places of a tenant, and flushes them from the TLB. If the tenant's address space is not in use, the TLB has nothing of
+ * it, since each switch of address spaces flushes the TLB. */
 void unmap(unsigned t, uint32_t place, uint32_t bytes)
 {
     for (uint32_t b = 0; b < bytes; b += FRAME) {

@@ -2,10 +2,10 @@
 #include "calls.h"
 #include "kernel.h"
 
-/* The objects of a partition, in two caches of its own. They hold only what its own calls put there. */
+/* The objects of a partition, in two caches of the partition. They contain only what the partition's own calls put there. */
 struct thread {
-    uint64_t handler;   /* where it continues after a fault; 0: it ends */
-    uint64_t waits_for; /* the place of the endpoint that it waits for plus 1, or 0 */
+    uint64_t handler;   /* the address at which the thread continues after a fault; if it is 0, a fault ends the thread */
+    uint64_t waits_for; /* 1 plus the place of the endpoint that the thread waits for; 0 if it waits for none */
 };
 
 struct endpoint {
@@ -15,7 +15,8 @@ struct endpoint {
 
 enum { THREAD_CACHE, ENDPOINT_CACHE, MOST_COUNTS = 1024 };
 
-/* Registers are saved at times that depend on other partitions. So they are here, and not in the thread's object. */
+/* What the kernel keeps of a thread. When it saves registers depends on other partitions, so it saves them here, and not in the
+ * thread's object. */
 struct context {
     struct registers registers;
     uint8_t vectors[512] __attribute__((aligned(16))); /* the x87 and SSE state */
@@ -32,7 +33,7 @@ static struct {
 static unsigned current;
 uint64_t ticks;
 
-/* The instructions of each call of partition 0: all of them, and those that are not for printing. */
+/* For each system call of partition 0: the instructions of all of it, and those without printing. */
 static struct {
     const char *name;
     uint64_t all, quiet;
@@ -74,7 +75,7 @@ static void load_vectors(const struct context *context)
 
 /* ---- Threads ------------------------------------------------------------------------------------------------------------ */
 
-/* Returns whether user mode can continue there: iretq to an address that is not canonical faults in the kernel. */
+/* Returns whether user mode can continue at an address: iretq to one that is not canonical would fault in the kernel. */
 static bool is_of_user(uint64_t address) { return address < 1ul << 47; }
 
 static uint64_t start_thread(unsigned t, uint64_t address, uint64_t stack, uint64_t argument)
@@ -94,7 +95,8 @@ static uint64_t start_thread(unsigned t, uint64_t address, uint64_t stack, uint6
     return number;
 }
 
-/* Gives the turn to a thread of the partition that can run. If there is none, the partition has ended. */
+/* Gives the turn to the next thread of the partition that does not wait, from the one after the current thread on. If there is
+ * none, the partition has ended. */
 static void choose_thread(unsigned t)
 {
     for (unsigned i = 1; i <= THREADS; i++) {
@@ -170,7 +172,8 @@ static uint64_t send(unsigned t, uint32_t place, uint64_t word)
     return 0;
 }
 
-/* Waits if the endpoint is empty and another thread of the partition can run. */
+/* Returns the next word of an endpoint. If there is none, the thread waits and the turn goes to another thread of the partition
+ * that can run; if no other can, the call is refused. */
 static uint64_t receive(unsigned t, uint32_t place)
 {
     const struct endpoint *endpoint = lent_object(t, ENDPOINT_CACHE, place);
@@ -189,7 +192,7 @@ static uint64_t receive(unsigned t, uint32_t place)
     return REFUSED;
 }
 
-/* Drops an endpoint. No thread may be waiting for it. */
+/* Drops an endpoint. Refuses if a thread waits for it. */
 static uint64_t drop(unsigned t, uint32_t place)
 {
     if (waiting_for(t, place)) return REFUSED;
@@ -218,8 +221,8 @@ static uint64_t catch_faults(unsigned t, uint64_t handler)
     return 0;
 }
 
-/* Returns a number of a system call in 32 bits, as the library takes it. A number that does not fit becomes the largest, which is
- * too large too. */
+/* Returns an argument of a system call in 32 bits, as the library takes it. An argument that does not fit becomes UINT32_MAX,
+ * which is no order, frame or place either. */
 static uint32_t fit(uint64_t number) { return number > UINT32_MAX ? UINT32_MAX : (uint32_t)number; }
 
 static uint64_t answer(unsigned t, uint64_t call, uint64_t first, uint64_t second, uint64_t third)
@@ -262,8 +265,8 @@ static void system_call(struct context *context, uint64_t begin)
     counts[count++].quiet = all - printing;
 }
 
-/* Reports a fault of a partition, by the place if it is at one of its places (duty 6). The thread continues at its handler, or
- * ends if it has none. */
+/* Prints a fault of a partition, with the place and not an address if it is at one of the partition's places (duty 6). The thread
+ * continues at its handler, or ends if it has none. */
 static void fault(unsigned t, struct context *context)
 {
     const struct registers *registers = &context->registers;
@@ -288,7 +291,8 @@ static void choose_partition(bool is_end_of_turn)
     panic("no partition can run");
 }
 
-/* Puts the registers of the partition whose turn it is on the kernel's stack, from which they are loaded. */
+/* Enters the address space of the partition whose turn it is, loads its vector registers, and puts its other registers into
+ * `registers`, from which resume loads them. */
 static void switch_to_current(struct registers *registers)
 {
     const struct registers before = *registers;

@@ -1,4 +1,4 @@
-/* The programs of partitions. All their variables are on their stacks, which lie in page blocks of their partition. */
+/* The programs of partitions. All variables of a program are on its stacks, which lie in page blocks of its partition. */
 #include <stdint.h>
 
 #include "calls.h"
@@ -8,7 +8,7 @@
 #define CODE 0x10000000000ull
 enum { WORDS = FRAME / 8, SLOT = 1 << ORDER }; /* the words of a frame, the frames of a slot */
 
-/* A system call with the direction flag set, which the kernel has to clear. */
+/* Makes a system call, with the direction flag set, which the kernel has to clear. */
 static inline uint64_t call(uint64_t number, uint64_t first, uint64_t second, uint64_t third)
 {
     uint64_t result;
@@ -21,13 +21,14 @@ static uint64_t alloc(uint64_t order) { return call(CALL_ALLOC, order, 0, 0); }
 static void free_frame(uint64_t frame) { call(CALL_FREE, frame, 0, 0); }
 static volatile uint64_t *words_of(uint64_t frame) { return (volatile uint64_t *)(PLACES + frame * FRAME); }
 
-/* Loads a byte, stores a byte, runs code, reads the time, or reads a port. After a fault `in_vain` returns REFUSED. */
+/* These load a byte, store a byte, run code, read the time stamp, and read a port. If one faults, the thread continues at
+ * `in_vain`, which returns REFUSED. */
 uint64_t load_byte(uint64_t address);
 uint64_t store_byte(uint64_t address);
 uint64_t run_at(uint64_t address);
 uint64_t read_time(uint64_t unused);
 uint64_t read_port(uint64_t unused);
-extern const char in_vain[], new_thread[]; /* new_thread jumps to serve; its second argument has the bits of all registers */
+extern const char in_vain[], new_thread[]; /* new_thread jumps to serve, and passes the OR of its other registers */
 __asm__(".text\n"
         ".globl load_byte, store_byte, run_at, read_time, read_port, in_vain, new_thread\n"
         "load_byte: movzbl (%rdi), %eax\n ret\n"
@@ -98,7 +99,7 @@ static uint64_t wrong_vectors(uint64_t seed)
     return wrong + ((state.words[3] >> 13 & 3) != (seed & 3));
 }
 
-/* Four segment registers, each with one of the two selectors that user mode may load. */
+/* Returns the selector that a segment register gets: one of the two that user mode may load, by a bit of the seed. */
 static uint32_t selector(uint64_t seed, int bit) { return seed >> bit & 1 ? 0x23 : 0x1b; }
 
 static void load_selectors(uint64_t seed)
@@ -174,7 +175,8 @@ static void touch_what_is_not_its_own(uint64_t slab)
     call(CALLS, 0, 0, 0);
 }
 
-/* Runs in the other thread: sends back each word that it receives, doubled, until a word is 0. */
+/* Runs in the other thread. Receives words from one endpoint, and sends each, doubled, to another one. Ends after it has received
+ * and sent 0. */
 void serve(uint64_t endpoints, uint64_t registers);
 void serve(uint64_t endpoints, uint64_t registers)
 {
@@ -289,7 +291,8 @@ static void fill_all(void)
 }
 
 struct load {
-    /* `taken` and `orders` have the `held` blocks. `lost` is the number of wrong words in blocks, and `made` is an endpoint. */
+    /* `taken` and `orders` have the first frames and the orders of the `held` blocks. `lost` counts wrong words in blocks, and
+     * `made` is the last endpoint. */
     uint64_t state, taken[8], orders[8], held, lost, made;
 };
 
@@ -311,7 +314,7 @@ static void drop_block(struct load *load, uint64_t at)
     load->orders[at] = load->orders[load->held];
 }
 
-/* Makes a call, with other values in the registers each time. */
+/* Allocates, frees, uses an endpoint or loads a byte, at random. Each time the registers have other values. */
 static void call_any(struct load *load)
 {
     uint64_t what = next(&load->state) >> 8 & 7, which = load->state >> 24 & 0xfffff;
@@ -324,7 +327,7 @@ static void call_any(struct load *load)
         load->made = call(CALL_MAKE, 0, 0, 0);
         call(CALL_SEND, load->made, load->state, 0);
     } else if (what == 6) {
-        uint64_t of_partition_0 = 4 * FRAME + (which & 1) * 64; /* an endpoint there; this partition may have one there too */
+        uint64_t of_partition_0 = 4 * FRAME + (which & 1) * 64; /* an endpoint of partition 0 begins there */
         call(CALL_DROP, load->made, 0, 0);
         call(CALL_SEND, of_partition_0, load->state, 0);
         call(CALL_RECEIVE, of_partition_0, 0, 0);
@@ -333,7 +336,7 @@ static void call_any(struct load *load)
     }
 }
 
-/* Counts the frames that it can load from. Its stack is in frame 0. */
+/* Returns how many frames of slots 0 and 1 the program can load from. Leaves out frame 0, which has its stack. */
 static uint64_t frames_reached(void)
 {
     uint64_t found = 0;
@@ -341,13 +344,13 @@ static uint64_t frames_reached(void)
     return found;
 }
 
-/* Frees all its blocks except its stack. */
+/* Frees all page blocks of the partition except the one with its stack, at frame 0. */
 static void free_all(void)
 {
     for (uint64_t frame = 1; frame < SUPERBLOCKS * SLOT; frame++) free_frame(frame);
 }
 
-/* Makes 100 calls at random, fills all its memory and frees it, and starts again. */
+/* Makes 100 calls at random, fills all its memory, meets the administrator, frees the memory, and starts again. */
 void noisy(uint64_t seed);
 void noisy(uint64_t seed)
 {

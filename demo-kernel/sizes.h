@@ -1,4 +1,4 @@
-/* The sizes of the machine. The gate uses these; `demo-kernel/run --figures` builds the kernel with others, too. */
+/* The sizes of the machine, unless the compiler's command line has others, as `demo-kernel/run --figures` gives them. */
 #ifndef SIZES_H
 #define SIZES_H
 

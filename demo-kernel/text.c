@@ -3,7 +3,8 @@
 
 #include "kernel.h"
 
-/* Printed text is buffered here, so that a system call that prints costs the same at all times. QEMU takes it from port 0xe9. */
+/* Printed text waits here until flush sends it to QEMU by port 0xe9. So a system call that prints the same text always takes the
+ * same number of instructions. */
 static char waiting[1 << 16];
 static size_t length;
 uint64_t printing;
@@ -89,8 +90,8 @@ void *memmove(void *to, const void *from, size_t bytes)
     return to;
 }
 
-/* An unproved library calls this function for a notice when a program starts, which does not happen in a kernel, and if one of
- * its checks fails. */
+/* An unproved library calls this function if one of its checks fails. It also calls it for its notice when a program starts, but
+ * a kernel does not run that code. */
 long write(int file, const void *text, size_t bytes);
 long write(int file, const void *text, size_t bytes)
 {
