@@ -1,5 +1,5 @@
 /* A freestanding program: two static arrays are the memory of a machine. The library needs memcpy, memmove and memset, and
- * nothing else. What comes after "The board" is for x86-64 Linux without a C library: a kernel or a board has its own.
+ * nothing else. What comes after "The board" is for x86-64 Linux without a C library. A kernel or a board has other code there.
  *
  *     gcc -std=c11 -O2 -ffreestanding -nostdlib -static examples/embed.c -lpartmem -o embed
  */

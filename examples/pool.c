@@ -22,7 +22,7 @@ struct pool {
     partmem_tenant tenant;
     uint32_t heads; /* the place of the page block with the first link of each chain */
     uint64_t random;
-    uint64_t hash, bytes; /* of all answers, and of all bytes that the client read */
+    uint64_t hash, bytes; /* a hash of all answers and of all bytes that the client read, and how many bytes these were */
     uint32_t answers, refusals;
 };
 
@@ -42,7 +42,7 @@ static void see(struct pool *pool, const void *bytes, size_t count) {
     pool->bytes += count;
 }
 
-/* Counts an answer to a client, with the place in it. Returns whether the request was done. */
+/* Counts an answer to a client, which consists of a status and a place. Returns whether the request was done. */
 static int is_done(struct pool *pool, partmem_status status, const uint32_t *place) {
     see(pool, &status, sizeof status);
     see(pool, place, sizeof *place);
@@ -60,7 +60,8 @@ static uint32_t *link_to(const struct pool *pool, uint32_t key) {
     return link;
 }
 
-/* Adds a key, unless it is there. A new object or block has zeroes, or what the client left in it, and the client reads that. */
+/* Adds a key, unless it is there. A new object or block has zeroes, or what the client left in it. The client reads these bytes.
+ * */
 static void put(struct pool *pool, uint32_t key) {
     uint32_t *link = link_to(pool, key);
     partmem_lent object, blob;
@@ -111,7 +112,8 @@ static void open_pool(struct pool *pool) {
     pool->heads = heads.place;
 }
 
-/* Serves client 0 and moves a slot of another one. Once in 50 times it resets client 0; returns 1 then. */
+/* Serves up to 8 requests of client 0, and moves a slot of another client. One time in 50, also resets client 0. Returns how
+ * often it reset client 0: 0 or 1. */
 static int disturb(struct pool pools[CLIENTS]) {
     partmem_slot moved;
     uint32_t other = 1 + any(&pools[0], CLIENTS - 1);

@@ -48,7 +48,7 @@ static uint32_t put_message(partmem_tenant tenant, uint32_t messages, uint32_t n
     return object.place;
 }
 
-/* Uses objects and a page block of the last tenant, through a move. */
+/* Uses objects and a page block of the last tenant, before and after a move of their slot. */
 static void use_in_place(partmem_machine *machine) {
     const partmem_tenant last = {machine, 63}, other = {machine, 62};
     partmem_slot slot;

@@ -1,6 +1,6 @@
-/* The calls of /dev/partmem. Its administrator, a process with CAP_SYS_ADMIN, grants superblocks to partitions, and binds files to
- * them. A process with a bound file maps its partition's places with MAP_SHARED, place 0 at offset 0, and allocates page blocks
- * there. An access to a place outside the partition's page blocks raises SIGBUS. */
+/* The calls of /dev/partmem. The administrator, a process with CAP_SYS_ADMIN, grants superblocks to partitions, and binds open
+ * files of the device to them. A process with a bound file maps its partition's places with MAP_SHARED, place 0 at offset 0, and
+ * allocates page blocks there. An access to a place outside the partition's page blocks raises SIGBUS. */
 #ifndef PARTMEM_DEVICE_H
 #define PARTMEM_DEVICE_H
 
@@ -8,14 +8,14 @@
 #include <linux/types.h>
 
 struct partmem_call {
-	__u32 partition;        /* for the administrator's calls */
-	__u32 number;           /* a slot, an order or a place, as each call says */
-	__u32 status;           /* a partmem_status */
-	__u32 place, bytes;     /* of a page block */
-	__u32 slot, superblock; /* for the administrator's calls */
+	__u32 partition;        /* in: the partition that a call of the administrator is about */
+	__u32 number;           /* in: a slot, an order or a place, as each call says */
+	__u32 status;           /* out: a partmem_status */
+	__u32 place, bytes;     /* out: the page block of an ALLOC or a FREE */
+	__u32 slot, superblock; /* out: the slot of a GRANT or a MOVE, and its superblock now */
 };
 
-/* Calls of the administrator. A reset also ends the binding of each file of the partition. A file can be bound only once. */
+/* Calls of the administrator. A reset also ends the bindings of all files to the partition. A file can be bound only once. */
 #define PARTMEM_IOC_GRANT _IOWR('m', 1, struct partmem_call)
 #define PARTMEM_IOC_TAKE_BACK _IOWR('m', 2, struct partmem_call) /* slot */
 #define PARTMEM_IOC_MOVE _IOWR('m', 3, struct partmem_call)      /* slot */

@@ -21,7 +21,8 @@ static char *places;
 static struct unused *unused[PAGE];
 static uint8_t power_in[PAGES]; /* by page: k of the pieces in it, or of the block that begins there */
 
-/* Maps all places that the partition can name. A mapping that is too large is refused, so the largest is tried first. */
+/* Maps all places that the partition can name. How many these are is not known, and a larger mapping is refused. So it tries
+ * smaller and smaller mappings until one is not refused. */
 static void start(void)
 {
     file = atoi(getenv("PARTMEM_FILE"));

@@ -120,7 +120,7 @@ static void drop(struct block *block)
     *block = blocks[--held];
 }
 
-/* Waits until the administrator has done something. */
+/* Sends a byte to the administrator, and waits until the administrator answers. */
 static void meet(int to_administrator, int from_administrator)
 {
     char byte = 0;
@@ -148,12 +148,13 @@ static void work(int to_administrator, int from_administrator)
     }
 }
 
-/* Takes a new superblock, and uses it. In a noisy world partition 1 had it before, and still runs meanwhile. */
+/* Gets a new superblock, prints how many of its words are not 0, and uses it. In a noisy world partition 1 had the superblock
+ * before, and its process still runs. */
 static void take_over(int to_administrator, int from_administrator)
 {
     char byte;
     uint64_t not_zero = 0;
-    while (add(ORDER)) fill(&blocks[held - 1], 2); /* so that the only whole free superblock is the one that is granted now */
+    while (add(ORDER)) fill(&blocks[held - 1], 2); /* so that only the superblock that is granted next is free as a whole */
     meet(to_administrator, from_administrator);
     if (!add(ORDER)) die("no superblock");
     struct block *block = &blocks[held - 1];
@@ -188,7 +189,7 @@ static void fill_all(int asked, int done)
     if (write(done, &byte, 1) != 1) die("cannot say that all is filled");
 }
 
-/* Allocates, frees and stores at random, also at places that it does not have; and fills all memory when it is asked to. */
+/* Allocates, frees and stores at random, also at places that it does not have. Fills all its memory when it is asked to. */
 static void run_partition_1(int asked, int done)
 {
     static uint64_t state = 12345;
@@ -214,8 +215,8 @@ static int bound_file(uint32_t partition)
     return bound;
 }
 
-/* Starts a process that has a bound file of a partition, and no other way to reach the partition's memory. Returns 0 in the new
- * process. */
+/* Starts a process that has a file bound to a partition, and no other way to reach the partition's memory. Returns the process,
+ * or 0 in the new process itself. */
 static pid_t start(uint32_t partition)
 {
     const int bound = bound_file(partition);
@@ -277,7 +278,8 @@ static void make_noise(uint64_t random)
     noise.resets++;
 }
 
-/* Has partition 1 fill all its memory and lose it, and grants partition 0 one of its superblocks. */
+/* Grants partition 0 a superblock. In a noisy world partition 1 first gets all superblocks that are left, fills them and loses
+ * them, so partition 0 gets one that was partition 1's. */
 static void hand_over(bool is_noisy)
 {
     char byte = 0;
@@ -338,7 +340,7 @@ static void run_perl(void)
 
 /* ---- All of it ------------------------------------------------------------------------------------------------------------ */
 
-/* Prints what is in /lines, and empties it. */
+/* Sends what is in /lines to port 0xe9, and empties /lines. */
 static void send_lines(void)
 {
     static char text[1 << 20];

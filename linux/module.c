@@ -28,10 +28,10 @@ static DEFINE_MUTEX(lock);
 static partmem_machine machine;
 static u8 *ram, *tables;
 static u32 unit;      /* bytes of a superblock */
-static u32 pages;     /* how many a partition can name */
+static u32 pages;     /* how many pages a partition can name */
 static u32 *bindings; /* by partition: how many resets have ended the bindings of its files (duty 13) */
 
-/* All mappings are of this inode, whatever path was opened. Page p of partition i has the offset i * pages + p. */
+/* The inode of all mappings, by whatever path the device was opened. Page p of partition i is its page i * pages + p. */
 static struct inode *node;
 
 struct handle {
@@ -138,7 +138,7 @@ static long device_ioctl(struct file *file, unsigned int kind, unsigned long at)
 	return !status && copy_to_user((void __user *)at, &call, sizeof(call)) ? -EFAULT : status;
 }
 
-/* ---- Maps have only frame numbers, so nobody (direct I/O, ptrace) gets a reference to a page, which could outlast the map ------ */
+/* ---- Mappings have only frame numbers, so nobody (direct I/O, ptrace) gets a reference to a page that outlasts them -------- */
 
 static u8 *address_of(u32 partition, u32 place)
 {
@@ -269,7 +269,7 @@ static int __init start(void)
 	return status;
 }
 
-/* No file is open: an open file holds the module. */
+/* Linux calls this only if no file of the device is open: an open file holds the module. */
 static void __exit stop(void)
 {
 	misc_deregister(&device);

@@ -1,4 +1,5 @@
-# Fills a hash, sorts it, joins and splits long strings, and now and then prints what it has. It prints no address.
+# In each of 20 rounds adds words to a hash, joins them to a long string, splits it, prints sums, and deletes 100 words. Then
+# prints the hash. No address is printed.
 my %seen;
 my $state = 7;
 sub word {

@@ -1,5 +1,5 @@
-//! Sessions are typed values in a client's cache. Taking an object writes the value; dropping it drops the value and gives the
-//! object back.
+//! Sessions are typed values in a client's cache. Taking an object writes a value to it. Dropping the object drops the value, and
+//! gives the object back to the cache.
 use partmem::{typed, Client, Config, Error, Machine};
 
 struct Session<'k> {

@@ -19,7 +19,7 @@ impl Server {
         Ok(Server { caches: caches.collect::<Result<_, _>>()?, machine, sessions: HashMap::new() })
     }
 
-    /// Opens a session and returns its place, which the client uses to name it.
+    /// Opens a session and returns its place, by which the client names the session.
     fn open(&mut self, client: Tenant, user: &str) -> Result<Place, Error> {
         let mut session = self.machine.take(&self.caches[client.0 as usize])?;
         let (place, bytes) = (session.place(), self.machine.lend_mut(&mut session)?);

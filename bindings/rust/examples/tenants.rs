@@ -7,7 +7,7 @@ struct Node<'h> {
     next: Option<Boxed<'h, Node<'h>>>,
 }
 
-/// Pushes `most` numbers to a list, or as many as the heap has memory for. Returns the list and its length.
+/// Makes a list of `most` numbers, or of as many as the heap has memory for. Returns the list and its length.
 fn push<'h>(heap: &'h Heap<'h>, most: u64) -> (Option<Boxed<'h, Node<'h>>>, u64) {
     let mut list = None;
     for number in 0..most {
@@ -20,7 +20,7 @@ fn push<'h>(heap: &'h Heap<'h>, most: u64) -> (Option<Boxed<'h, Node<'h>>>, u64)
     (list, most)
 }
 
-/// Drops a list from its beginning on, without recursion.
+/// Drops a list from its beginning on, without recursion. Returns the sum of its numbers.
 fn clear<'h>(mut list: Option<Boxed<'h, Node<'h>>>) -> u64 {
     let mut sum = 0;
     while let Some(node) = list {
@@ -31,7 +31,7 @@ fn clear<'h>(mut list: Option<Boxed<'h, Node<'h>>>) -> u64 {
     sum
 }
 
-/// Fills a client's heap, and leaks all of it.
+/// Fills a client's heap with a list, and leaks the list. Returns its length.
 fn exhaust(client: &Client<'_>) -> Result<u64, Error> {
     let heap = client.heap()?;
     let (list, length) = push(&heap, u64::MAX);

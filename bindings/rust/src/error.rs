@@ -19,7 +19,7 @@ const REFUSALS: [Refusal; 15] = [
     NoTenant, PoolEmpty, NoSlot, SlotBusy,
 ];
 
-/// Why a call did nothing: a refusal, or a mistake of the caller.
+/// Why a call did nothing: a refusal, a mistake of the caller, or `NoMemory`.
 #[derive(Clone, Copy, Debug, PartialEq, Eq, Hash)]
 #[non_exhaustive]
 pub enum Error {
@@ -39,7 +39,7 @@ pub enum Error {
     Other(u32),
 }
 
-/// Returns the result that a status of the library means.
+/// Returns `Ok` for the status 0, or else the error that the status stands for.
 pub(crate) fn done(status: u32) -> Result<(), Error> {
     Err(match status {
         0 => return Ok(()),

@@ -6,7 +6,8 @@ use core::mem::{self, ManuallyDrop};
 use core::sync::atomic::{AtomicBool, Ordering};
 use core::{fmt, hint, ptr};
 
-/// A lock around a value. With the feature `std` a `std::sync::Mutex` is one; [`SpinLock`] needs nothing.
+/// A lock around a value. With the feature `std` a `std::sync::Mutex` is one. [`SpinLock`] is one without an operating system,
+/// too.
 pub trait Lock<T> {
     /// Runs some work with the value, while nobody else has it.
     fn with<R>(&self, work: impl FnOnce(&mut T) -> R) -> R;
@@ -55,8 +56,8 @@ impl<T> Lock<T> for SpinLock<T> {
     }
 }
 
-/// A function that opens the machine of a program's global allocator. It may not allocate, and not panic, which allocates: both
-/// would wait forever.
+/// A function that opens the machine of a program's global allocator. It must not allocate, and must not panic, since a panic
+/// allocates: an allocation in it would wait forever.
 pub type Open = fn() -> Result<(Machine, Tenant), Error>;
 
 /// A heap with its machine, which never ends. The first allocation opens it.
@@ -134,8 +135,8 @@ impl<L> Global<L> {
 }
 
 impl<L: Lock<LazyHeap>> Global<L> {
-    /// Runs some work with the administrator and the other tenants of the machine. The work may not allocate from this allocator,
-    /// whose lock is held, and not panic. Returns `None` if the heap could not be opened.
+    /// Runs some work with the administrator and the other tenants of the machine. The work must not allocate from this
+    /// allocator, whose lock is held, and must not panic. Returns `None` if the heap could not be opened.
     pub fn with_others<R>(&self, work: impl FnOnce(Administrator<'_>, Clients<'_>) -> R) -> Option<R> {
         self.0.with(|lazy| {
             lazy.open();
@@ -148,7 +149,7 @@ impl<L: Lock<LazyHeap>> Global<L> {
         })
     }
 
-    /// Runs some work with the heap. Returns null if it could not be opened.
+    /// Runs some work with the heap, and returns what it returns. Returns null if the heap could not be opened.
     fn with_heap(&self, work: impl FnOnce(&RawHeap) -> *mut u8) -> *mut u8 {
         let aborts = AbortsIfUnwound;
         let at = self.0.with(|lazy| lazy.heap().map_or(ptr::null_mut(), work));
@@ -157,7 +158,7 @@ impl<L: Lock<LazyHeap>> Global<L> {
     }
 }
 
-/// An allocator may not unwind: if a panic drops this value, the second panic in its `drop` ends the program.
+/// Ends the program if a panic drops it, by a second panic in its `drop`: an allocator must not unwind.
 struct AbortsIfUnwound;
 
 impl Drop for AbortsIfUnwound {

@@ -86,7 +86,8 @@ impl RawHeap {
 /// to lie in RAM one after another, as they do after grants at the start.
 pub struct Heap<'c> {
     raw: RawHeap,
-    /// A second client of the tenant. The user of the heap no longer has the first one, or only borrows it. It is not public.
+    /// A second client of the tenant, which is not public. As long as the heap lives, the first one is borrowed, or is in an
+    /// [`OwnedHeap`].
     client: Client<'c>,
 }
 
@@ -237,7 +238,7 @@ mod allocator {
     use core::alloc::{AllocError, Allocator};
     use core::ptr;
 
-    /// Returns the memory of a layout, at an address that may be null.
+    /// Returns the memory of a layout at an address, or an error if the address is null.
     fn memory(at: *mut u8, layout: Layout) -> Result<NonNull<[u8]>, AllocError> {
         NonNull::new(ptr::slice_from_raw_parts_mut(at, layout.size())).ok_or(AllocError)
     }

@@ -189,11 +189,11 @@ impl Place {
 #[derive(Clone, Copy, Debug, PartialEq, Eq)]
 #[repr(C)]
 pub struct Config {
-    /// A superblock has 2^order frames of 4096 bytes: 3 to 8.
+    /// 3 to 8. A superblock has 2^order frames of 4096 bytes.
     pub order: u32,
-    /// 1 to 256.
+    /// How many superblocks there are: 1 to 256.
     pub superblocks: u32,
-    /// 1 to 64.
+    /// How many tenants there are: 1 to 64.
     pub tenants: u32,
 }
 
@@ -213,7 +213,7 @@ pub struct OrderRow {
     pub taken: u32,
 }
 
-/// The number of a cache, its slabs by how many of their objects are live, and its live objects.
+/// The number of a cache, how many of its slabs are full, partial and empty, and how many of its objects are live.
 #[derive(Clone, Copy, Debug, Default, PartialEq, Eq)]
 #[repr(C)]
 pub struct CacheRow {

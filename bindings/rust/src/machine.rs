@@ -10,12 +10,12 @@ const MOST_PATTERN: usize = 16;
 const MOST_TENANTS: usize = 64;
 static STAMPS: AtomicU64 = AtomicU64::new(0);
 
-/// Returns a number that no other tenant of any machine has or had.
+/// Returns a number that it has never returned before.
 fn new_stamp() -> u64 {
     STAMPS.fetch_add(1, Ordering::Relaxed)
 }
 
-/// Returns the result that a call writes.
+/// Returns the result that a call writes, or the error if its status is not 0.
 pub(crate) fn result<T: Default>(call: impl FnOnce(&mut T) -> u32) -> Result<T, Error> {
     let mut value = T::default();
     done(call(&mut value)).map(|()| value)
@@ -24,9 +24,9 @@ pub(crate) fn result<T: Default>(call: impl FnOnce(&mut T) -> u32) -> Result<T, 
 /// A handle: the only name of a live block or object. Dropping it leaves the block allocated, or the object taken.
 #[must_use = "a dropped handle leaves its bytes allocated"]
 pub struct Handle<Kind> {
-    /// The number of the tenant since its last reset.
+    /// The stamp that the tenant had when the handle was made. A reset gives the tenant a new one.
     stamp: u64,
-    /// How many moves the machine had made when `at` was the address.
+    /// How many moves the machine had made when `at` was found.
     moves: u64,
     at: *mut u8,
     pub(crate) tenant: Tenant,
@@ -84,9 +84,9 @@ pub struct Machine {
     /// The memory that [`Machine::boot`] has allocated.
     #[cfg(feature = "std")]
     owned: Option<Region>,
-    /// A number for each tenant. A reset takes a new one, so that older handles are refused.
+    /// The stamp of each tenant. A reset gives the tenant a new one, so that older handles are refused.
     stamps: [Cell<u64>; MOST_TENANTS],
-    /// The number of moves so far. Addresses in handles with the same number are right.
+    /// The number of moves so far. If a handle has the same number, its address is right.
     moves: Cell<u64>,
 }
 

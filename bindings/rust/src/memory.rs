@@ -172,7 +172,7 @@ impl<const RAM: usize, const TABLES: usize> fmt::Debug for StaticMemory<RAM, TAB
     }
 }
 
-/// Whether a boot runs: a program makes one boot at a time.
+/// Whether a boot runs. A program may run only one boot at a time.
 static IS_BOOTING: AtomicBool = AtomicBool::new(false);
 
 /// Runs a boot while no other one runs.

@@ -23,7 +23,7 @@ pub struct Clients<'a> {
 }
 
 impl<'a> Administrator<'a> {
-    /// Returns the administrator of a divided machine, which only its parts use.
+    /// Returns the administrator of a machine. As long as it lives, only the machine's parts may use the machine.
     pub(crate) fn new(machine: &'a Machine) -> Administrator<'a> {
         Administrator(machine)
     }
@@ -65,8 +65,8 @@ impl Administrator<'_> {
 }
 
 impl<'a> Clients<'a> {
-    /// Returns an iterator over the tenants of a divided machine, which only its parts use. A tenant whose client the caller has
-    /// may be left out.
+    /// Returns an iterator over the tenants of a machine, without the tenant `left_out`. As long as it lives, only the machine's
+    /// parts may use the machine.
     pub(crate) fn new(machine: &'a Machine, left_out: Option<Tenant>) -> Clients<'a> {
         Clients { machine, next: 0, left_out }
     }
@@ -121,7 +121,8 @@ impl<'a> Client<'a> {
         OwnedHeap::new(self, sizes, has_runs)
     }
 
-    /// Returns a second client of the tenant. It is only for a heap, whose user no longer has the first one, or only borrows it.
+    /// Returns a second client of the tenant, only for a heap. As long as the heap lives, the first client has to be borrowed, or
+    /// in an [`OwnedHeap`].
     pub(crate) fn again(&self) -> Client<'a> {
         Client { ..*self }
     }

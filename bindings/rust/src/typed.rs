@@ -8,10 +8,11 @@ use core::ptr::{self, NonNull};
 
 const LEAST_ALIGN: usize = 8;
 
-/// A cache of values of type `T`. Dropping it destroys it, and frees its slabs.
+/// A cache of values of type `T`. Dropping it destroys it, and frees its slabs. If an object was leaked, the cache stays until
+/// its tenant is reset.
 pub struct Cache<'c, T> {
     client: &'c Client<'c>,
-    /// A cache only for this type: nothing else knows its number.
+    /// The cache, which has only values of this type: no other code knows its number.
     cache: crate::Cache,
     values: PhantomData<T>,
 }
@@ -92,7 +93,7 @@ impl<'k, T> Object<'k, T> {
         unsafe { taken.at.as_ptr().read() }
     }
 
-    /// Returns the taken object. The caller then has to drop the value.
+    /// Returns the taken object, whose value the caller has to drop or to move out.
     fn into_taken(this: Self) -> Taken<'k, T> {
         let Object { at, place, cache } = *ManuallyDrop::new(this);
         Taken { at, place, cache }

@@ -22,7 +22,7 @@ fn open() -> Result<(Machine, Tenant), Error> {
 #[global_allocator]
 static GLOBAL: Global<SpinLock<LazyHeap>> = Global::new(SpinLock::new(LazyHeap::new(open)));
 
-/// Returns how many numbers of another tenant fit into a superblock.
+/// Fills a superblock of another tenant with numbers, and returns how many fit. Returns `None` if the heap could not be opened.
 fn count_numbers() -> Option<Result<u64, Error>> {
     GLOBAL.with_others(|administrator, mut clients| {
         let mut client = clients.next().ok_or(Error::Stale)?;
