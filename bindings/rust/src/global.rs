@@ -71,7 +71,8 @@ enum State {
     Failed,
 }
 
-// SAFETY: the machine and its heap go together, and a call of either needs `&mut LazyHeap`: so it comes from one thread at a time.
+// SAFETY: the machine and its heap go together, and a call of either needs `&mut LazyHeap`: so it comes from one thread at a
+// time.
 unsafe impl Send for LazyHeap {}
 
 impl LazyHeap {
@@ -167,9 +168,9 @@ impl Drop for AbortsIfUnwound {
     }
 }
 
-// SAFETY: a piece has the size and the alignment of its layout, is apart from all others, and stays until it is freed: the machine
-// never ends, and nobody else gets this tenant, so that it is not reset or moved. If the lock passes another heap than before, that
-// heap refuses what it has not allocated.
+// SAFETY: a piece has the size and the alignment of its layout, is apart from all others, and stays until it is freed: the
+// machine never ends, and nobody else gets this tenant, so that it is not reset or moved. If the lock passes another heap than
+// before, that heap refuses what it has not allocated.
 unsafe impl<L: Lock<LazyHeap>> GlobalAlloc for Global<L> {
     unsafe fn alloc(&self, layout: Layout) -> *mut u8 {
         self.with_heap(|heap| heap.allocate(layout))

@@ -90,12 +90,13 @@ pub struct Machine {
     moves: Cell<u64>,
 }
 
-// SAFETY: calls may come from any thread, one at a time. They need a reference, and a machine is not `Sync`. Its memory is reached
-// only through it.
+// SAFETY: calls may come from any thread, one at a time. They need a reference, and a machine is not `Sync`. Its memory is
+// reached only through it.
 unsafe impl Send for Machine {}
 
 impl Machine {
-    /// Boots a machine in which no superblock has an owner, in memory of the global allocator. Fails with `BadConfig`, `NoMemory`.
+    /// Boots a machine in which no superblock has an owner, in memory of the global allocator. Fails with `BadConfig`,
+    /// `NoMemory`.
     ///
     /// # Panics
     /// If the library has another version than 2.
@@ -258,7 +259,8 @@ impl Machine {
         // A copy, since the pattern may lie in lent bytes.
         let (mut copy, of, bytes) = ([0; MOST_PATTERN], self.of(tenant), pattern.len());
         copy[..bytes].copy_from_slice(pattern);
-        // SAFETY: the machine is booted, no other call of it runs, and the result goes to a local variable. The copy has that many bytes.
+        // SAFETY: the machine is booted, no other call of it runs, and the result goes to a local variable. The copy has that
+        // many bytes.
         let made: sys::Cache =
             result(|made| unsafe { sys::partmem_make_cache(of, size, align, copy.as_ptr(), bytes, made) })?;
         Ok(Cache { stamp: self.stamps[tenant.0 as usize].get(), tenant, number: made.cache })
