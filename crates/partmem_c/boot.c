@@ -7,7 +7,7 @@ partmem_status partmem_boot(partmem_machine *machine, const partmem_config *conf
 {
     partmem_memory memory = {NULL, NULL};
     partmem_status status = partmem_boot_in(machine, config, &memory);
-    if (status != PARTMEM_BAD_MEMORY) return status; /* the machine or the config is refused before the memory */
+    if (status != PARTMEM_BAD_MEMORY) return status; /* the memory is checked last, so the machine or the config is refused */
     memory.ram = aligned_alloc(PARTMEM_FRAME_BYTES, PARTMEM_RAM_BYTES(config->order, config->superblocks));
     memory.tables = malloc(PARTMEM_TABLE_BYTES(config->order, config->superblocks, config->tenants));
     status = memory.ram && memory.tables ? partmem_boot_with(machine, config, &memory, free) : PARTMEM_NO_MEMORY;

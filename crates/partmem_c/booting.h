@@ -4,7 +4,7 @@
 
 #include "partmem.h"
 
-/* Boots as partmem_boot_in does. partmem_end passes the RAM and the tables to `release`, unless it is NULL. */
+/* Boots as partmem_boot_in does. Unless `release` is NULL, partmem_end calls it with the RAM, and then with the tables. */
 partmem_status partmem_boot_with(partmem_machine *machine, const partmem_config *config, const partmem_memory *memory,
                                  void (*release)(void *memory));
 

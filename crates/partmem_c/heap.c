@@ -1,5 +1,5 @@
-/* The heap of a tenant, over direct calls. It keeps the caches of its classes and its runs. The library knows what is live
- * where. */
+/* The heap of a tenant, over the direct calls of partmem.h. It stores only the cache of each class, and its runs. It looks up in
+ * the library what is live at a place. */
 #include <stdbool.h>
 #include <string.h>
 
@@ -9,20 +9,20 @@ enum {
     STEP = PARTMEM_HEAP_STEP,
     STEPS = PARTMEM_FRAME_BYTES / PARTMEM_HEAP_STEP,
     MOST_CACHE_ALIGN = 256,
-    KEPT_BYTES = 64, /* a piece of at most this size is not made smaller */
+    KEPT_BYTES = 64, /* realloc makes no piece of at most this size smaller */
     NO_ROW = PARTMEM_MOST_SUPERBLOCKS,
-    /* Entries of run[] that are no number of superblocks. IN_RUN is for a slot inside a run. While a row of slots is searched,
-     * FOUND is for an allocated slot that may be part of it, and ASIDE for one that may not. */
+    /* Entries of run[] that are not the length of a run. IN_RUN is for each slot of a run except its first. FOUND and ASIDE are
+     * for slots that are allocated during the search for a row: FOUND if the slot can be part of the row, ASIDE if not. */
     IN_RUN = 0xffff,
     FOUND = 0xfffe,
     ASIDE = 0xfffd
 };
 
-/* The slabs of these sizes leave few bytes unused. docs/heap.md says how many. */
+/* The sizes of the default classes. Their slabs have few unused bytes; docs/heap.md says how many. */
 static const uint16_t default_sizes[] = {16,  32,  48,  64,   80,   96,   128,  176,  224,  256,  336,  448,
                                          576, 816, 1024, 1168, 1360, 1632, 2048, 2336, 2720, 3264, 3568, 4096};
 
-/* Returns the order of the smallest page block that has this number of bytes, at most a superblock's order. */
+/* Returns the order of the smallest page block with at least this number of bytes, which are at most a superblock's. */
 static uint32_t order_for(size_t bytes)
 {
     uint32_t order = 0;
@@ -32,8 +32,8 @@ static uint32_t order_for(size_t bytes)
 
 /* ---- Initialisation ----------------------------------------------------------------------------------------------------- */
 
-/* Returns the alignment of a class. Caches have alignments up to 256. An object whose size is a power of two from 512 on begins
- * at a multiple of its size all the same, since the slabs of its cache have no bytes left for colours. */
+/* Returns the alignment of the objects of a class. The alignment of a cache is at most 256. But an object of 512, 1024, 2048 or
+ * 4096 bytes begins at a multiple of its size, since slabs of such objects have no bytes left for colours. */
 static uint32_t alignment_of(uint32_t size)
 {
     const uint32_t power = size & -size;
@@ -56,7 +56,8 @@ static bool set_classes(partmem_heap *heap, const uint16_t *sizes, uint32_t coun
     return true;
 }
 
-/* Finds the slots of a tenant. Returns false unless they are 0, 1, 2 .. and lie in RAM one behind another. */
+/* Sets `slots` and `base` for a heap with runs. Returns false if the tenant has no slot, or if its slots are not 0, 1, 2 .., one
+ * after another in RAM. */
 static bool set_slots(partmem_heap *heap, partmem_tenant tenant)
 {
     partmem_slot slot;
@@ -117,8 +118,8 @@ static partmem_status make_cache(partmem_heap *heap, uint32_t class)
     return PARTMEM_DONE;
 }
 
-/* Takes an object of a class. If a direct call destroyed its cache, its number may now be another cache's: an object that is not
- * the class's is given back, and the class gets a new cache. */
+/* Takes an object of a class. If a direct call has destroyed the cache of the class, another cache may have its number by now. So
+ * an object without the size and the alignment of the class is given back, and the class gets a new cache. */
 static partmem_status take(partmem_heap *heap, uint32_t class, partmem_lent *object)
 {
     if (heap->cache_of[class]) {
@@ -153,8 +154,8 @@ static uint32_t superblocks_for(const partmem_heap *heap, size_t bytes)
     return (uint32_t)((bytes + superblock_bytes(heap) - 1) / superblock_bytes(heap));
 }
 
-/* Allocates superblocks until `count` lie in a row. Returns the first slot of the row, or NO_ROW if they run out before. All
- * that it allocated is marked as FOUND or ASIDE. */
+/* Allocates superblocks until `count` of them lie in a row. Returns the first slot of the row, or NO_ROW if no superblock is left
+ * before that. Marks each slot that it allocates as FOUND or ASIDE. */
 static uint32_t find_row(partmem_heap *heap, uint32_t count)
 {
     partmem_lent block;
@@ -198,7 +199,8 @@ static void *take_pages(partmem_heap *heap, size_t bytes)
 
 /* ---- Pieces ------------------------------------------------------------------------------------------------------------- */
 
-/* Allocates an object, or pages: these begin at a multiple of 4096. */
+/* Takes an object of the smallest class that is large enough, has the alignment, and has or gets a cache. If no class does, or if
+ * the take is refused, allocates pages, which begin at a multiple of 4096. */
 static void *allocate(partmem_heap *heap, size_t align, size_t bytes)
 {
     partmem_lent object;
@@ -208,7 +210,7 @@ static void *allocate(partmem_heap *heap, size_t align, size_t bytes)
     return status == PARTMEM_DONE ? object.at : take_pages(heap, bytes);
 }
 
-/* Returns how many bytes a request gets if there are enough frames. */
+/* Returns how many bytes a request gets if there are enough frames and caches. */
 static size_t bytes_for(const partmem_heap *heap, size_t bytes)
 {
     const uint32_t class = class_for(heap, bytes);

@@ -1,26 +1,27 @@
-/* The memory of a machine, which the caller provides. The kernel allocates while it boots, and never again. It does so by three
- * functions that the Rattle toolchain names. Here they take the superblocks from the RAM, and all else from the tables. */
+/* The memory of a machine, which the caller provides. The kernel allocates only while it boots, by three functions with names of
+ * the Rattle toolchain. They take the superblocks from the RAM, and all else from the tables. */
 #include <stdbool.h>
 #include <stdint.h>
 #include <string.h>
 
 #include "booting.h"
 
-#define PIECE_BYTES ((size_t)16) /* allocations in the tables begin at a multiple of it, and have a multiple of it */
+#define PIECE_BYTES ((size_t)16) /* allocations in the tables begin and end at multiples of it */
 
-/* A machine's memory. A copy lies at the beginning of the tables, and held[2] of the machine is its address. The tables may be an
- * array of char, in which C allows no object of another type: so the copy is made and read by memcpy, and never used in place. */
+/* What this file knows of a machine's memory. After boot a copy lies at the beginning of the tables, and held[2] of the machine
+ * is its address. The tables may be an array of char, in which C allows no object of another type. So the copy is made and read
+ * by memcpy, and never used in place. */
 struct state {
     uint8_t *ram;
     uint8_t *next; /* the first free byte of the tables */
     size_t left;   /* how many bytes are free from there on */
-    size_t unit;   /* of a superblock, in bytes */
+    size_t unit;   /* how many bytes a superblock has */
     uint32_t superblocks, tenants;
     uint32_t allocated; /* how many superblocks are allocated by now */
     void (*release)(void *memory);
 };
 
-/* The kernel's own functions. */
+/* The functions in Rattle that boot and end a machine. */
 partmem_status partmem_boot_kernel(partmem_machine *machine, const partmem_config *config);
 partmem_status partmem_end_kernel(partmem_machine *machine);
 
@@ -31,11 +32,11 @@ struct allocation {
     void *at; /* not NULL */
 };
 
-/* The machine that is booting, or NULL: outside of boot every allocation is refused. */
+/* The state of the machine that is booting, or NULL if none is. Then every allocation is refused. */
 static struct state *booting;
 
-/* Returns the state of a machine that is booted. Only the parts that are used are loaded. A plain memcpy would be a call, since
- * -ffreestanding makes a call of each. */
+/* Returns the state of a booted machine. With __builtin_memcpy the compiler loads only the fields that are used. A plain memcpy
+ * would be a call, because of -ffreestanding. */
 static inline struct state state_of(const partmem_machine *machine)
 {
     struct state state;
@@ -54,7 +55,8 @@ static struct allocation allocate_in_tables(size_t bytes)
     return done;
 }
 
-/* The first allocations of a superblock's size are the superblocks, in the order of their numbers. `align` is at most 16. */
+/* Allocates for the kernel that boots. Its first allocations with the size of a superblock are the superblocks, in the order of
+ * their numbers. `align` is at most 16. */
 struct allocation rattle_alloc(size_t bytes, size_t align)
 {
     (void)align;
@@ -70,7 +72,7 @@ struct allocation rattle_realloc(void *old, size_t kept, size_t bytes, size_t al
     return moved;
 }
 
-/* All of the memory is freed at once, by partmem_end. */
+/* Frees nothing: partmem_end frees all memory of the machine at once. */
 void rattle_dealloc(void *old)
 {
     (void)old;

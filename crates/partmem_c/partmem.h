@@ -197,9 +197,9 @@ typedef struct partmem_config {
     uint32_t tenants;     /* 1 to 64 */
 } partmem_config;
 
-/* The memory of a machine. Its bytes before boot do not matter. It may be an array of char, as above, as far as the library is
- * concerned. What the caller stores in lent bytes is another matter: by the letter of C an array of char holds nothing but char.
- * If the compiler goes by it, use memory without a declared type, or compile with -fno-strict-aliasing, as kernels are. */
+/* The memory of a machine. What it has in it before boot does not matter. For the library it may be an array of char, as above.
+ * For the caller's own stores in lent bytes there is a rule of C: an array of char holds nothing but char. If the compiler relies
+ * on this rule, use memory without a declared type, or compile with -fno-strict-aliasing, as kernels are. */
 typedef struct partmem_memory {
     void *ram;    /* PARTMEM_RAM_BYTES, at a multiple of 4096 */
     void *tables; /* PARTMEM_TABLE_BYTES, at a multiple of 16 */
@@ -234,12 +234,12 @@ PARTMEM_CHECKED partmem_status partmem_boot(partmem_machine *machine, const part
  * again, with the tenants' bytes in it. Returns NO_MACHINE. */
 partmem_status partmem_end(partmem_machine *machine);
 
-/* Returns the bytes of each superblock, 4096 << order. 0 without a machine. */
+/* Returns how many bytes a superblock has, 4096 << order. Returns 0 if there is no machine. */
 uint32_t partmem_superblock_bytes(partmem_machine *machine);
 
 /* ---- For the administrator ----------------------------------------------------------------------------------------------- */
 
-/* A slot, and the superblock under it, which is the administrator's knowledge and not the tenant's. */
+/* A slot, and the superblock under it. The administrator may know the superblock, but the tenant may not. */
 typedef struct partmem_slot {
     uint32_t slot;
     uint32_t superblock;
@@ -249,8 +249,8 @@ typedef struct partmem_slot {
  * POOL_EMPTY. */
 PARTMEM_CHECKED partmem_status partmem_grant(partmem_tenant tenant, partmem_slot *granted);
 
-/* Takes back a slot whose frames are all free, so nothing in it is lent. An empty slab has its frames until it is freed, by
- * partmem_reap, partmem_destroy_cache or on demand. Returns NO_SLOT, SLOT_BUSY. */
+/* Takes back a slot whose frames are all free, so nothing in it is lent. The frames of an empty slab are free only after the
+ * slab is freed, by partmem_reap, partmem_destroy_cache or on demand. Returns NO_SLOT, SLOT_BUSY. */
 PARTMEM_CHECKED partmem_status partmem_take_back(partmem_tenant tenant, uint32_t slot);
 
 /* Replaces the superblock of a slot by the first one without an owner, and copies all its bytes, if any was lent, written or in a
@@ -274,8 +274,8 @@ typedef struct partmem_owner {
 /* Finds the owner of a superblock. Returns NO_MACHINE, NO_SUPERBLOCK. */
 PARTMEM_CHECKED partmem_status partmem_find_superblock(partmem_machine *machine, uint32_t superblock, partmem_owner *owner);
 
-/* Returns the address of a superblock, for devices and dumps: NULL without a machine or such a superblock. Before the first lend,
- * write or new slab in its slot since the grant, old bytes lie there, and NOT the zeroes that its owner reads. */
+/* Returns the address of a superblock, for devices and dumps, or NULL if there is no machine or no such superblock. Until the
+ * first lend, write or new slab in its slot after the grant, old bytes lie there, and NOT the zeroes that its owner reads. */
 void *partmem_superblock_address(const partmem_machine *machine, uint32_t superblock);
 
 /* ---- Page blocks --------------------------------------------------------------------------------------------------------- */
@@ -288,7 +288,7 @@ PARTMEM_CHECKED partmem_status partmem_alloc(partmem_tenant tenant, uint32_t ord
 /* Frees the page block that begins at the place. Returns NOT_A_BLOCK. */
 PARTMEM_CHECKED partmem_status partmem_free(partmem_tenant tenant, uint32_t place);
 
-/* Returns the place of a frame's first byte, for any number: PARTMEM_NO_PLACE if it is too large for a frame. */
+/* Returns the place of a frame's first byte. Returns PARTMEM_NO_PLACE for a number above 0xfffff, which no frame has. */
 PARTMEM_INLINE uint32_t partmem_place_of(uint32_t frame)
 {
     return frame <= 0xfffffu ? frame * PARTMEM_FRAME_BYTES : PARTMEM_NO_PLACE;
@@ -302,7 +302,7 @@ typedef struct partmem_cache {
     uint32_t chunk;      /* bytes from one object to the next */
     uint32_t slab_bytes; /* of each slab: 4096 to 32768 */
     uint32_t objects;    /* of each slab */
-    uint32_t colours;    /* offsets of the first object, which slabs use in turn */
+    uint32_t colours;    /* how many offsets the first object of a slab may have; slabs use these in turn */
 } partmem_cache;
 
 /* Makes a cache of objects of `size` bytes, 1 to 4096, at multiples of `align`: 8, 16, 32, 64, 128 or 256. The pattern, of 1 to
@@ -359,8 +359,8 @@ PARTMEM_CHECKED partmem_status partmem_read(partmem_tenant tenant, uint32_t plac
  * NO_TENANT), OUT_OF_REACH. */
 PARTMEM_CHECKED partmem_status partmem_write(partmem_tenant tenant, uint32_t place, const void *from, size_t bytes);
 
-/* Finds the place of the byte at an address, which may be any, if it lies in a superblock of the tenant. It says nothing of what
- * is live there. Returns NOT_HELD. */
+/* Finds the place of the byte at an address, which may have any value. The byte need not be in anything live. Returns NOT_HELD if
+ * it is not in a superblock of the tenant. */
 PARTMEM_CHECKED partmem_status partmem_find_place(partmem_tenant tenant, const void *at, uint32_t *place);
 
 /* ---- What a tenant has --------------------------------------------------------------------------------------------------- */
@@ -381,7 +381,8 @@ typedef struct partmem_block {
     uint32_t bytes;
 } partmem_block;
 
-/* Finds what a place lies in. The next begins at found->place + found->bytes, which is 0 after the last of 2^32 places. */
+/* Finds the page block, slab, free frame or slot without a superblock that a place lies in. The next one begins at
+ * found->place + found->bytes, which is 0 after the last of 2^32 places. */
 PARTMEM_CHECKED partmem_status partmem_find_block(partmem_tenant tenant, uint32_t place, partmem_block *found);
 
 #define PARTMEM_OF_NO_CACHE 0xffffffffu /* the number of no cache */

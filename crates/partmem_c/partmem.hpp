@@ -134,7 +134,7 @@ public:
     /* Returns the status, which is done if there is a value. */
     status code() const noexcept { return code_; }
 
-    /* Returns the value. Throws an error without one. */
+    /* Returns the value, or throws an error if there is none. */
     T &value() &
     {
         check(code_);
@@ -431,7 +431,7 @@ public:
         return status_of(partmem_heap_init(&heap_, tenant.get(), &config));
     }
 
-    /* Allocates as allocate(), and returns nullptr at exhaustion, and for an alignment above 4096. */
+    /* Allocates as allocate() does, but returns nullptr if there is no memory, or if the alignment is above 4096. */
     void *try_allocate(std::size_t bytes, std::size_t align = alignof(std::max_align_t)) noexcept
     {
         if (align <= PARTMEM_HEAP_STEP) return partmem_heap_malloc(&heap_, bytes);

@@ -91,7 +91,7 @@ typedef struct partmem_heap {
     uint16_t align[PARTMEM_HEAP_MOST_CLASSES];                     /* of the objects of a class */
     uint8_t cache_of[PARTMEM_HEAP_MOST_CLASSES];                   /* the cache of a class, plus 1; 0 without one */
     uint8_t class_in[PARTMEM_MOST_CACHES];                         /* the last class that had this cache, plus 1; or 0 */
-    uint8_t class_of[PARTMEM_FRAME_BYTES / PARTMEM_HEAP_STEP + 1]; /* of a request, in steps; `classes` if it has none */
+    uint8_t class_of[PARTMEM_FRAME_BYTES / PARTMEM_HEAP_STEP + 1]; /* by the steps of a request: its class, or `classes` */
     /* By slot: how many superblocks the run has that begins there; 0xffff inside a run; else 0. */
     uint16_t run[PARTMEM_MOST_SUPERBLOCKS];
 } partmem_heap;

@@ -88,7 +88,7 @@ PARTMEM_INLINE void partmem_watched_forget(unsigned char *superblock, size_t byt
     __asan_unpoison_memory_region(superblock, bytes);
 }
 
-/* Returns how many of these bytes, from an address on, are lent. */
+/* Returns how many of the bytes at an address are lent, up to the first that is not lent. */
 PARTMEM_INLINE size_t partmem_watched_lent(unsigned char *at, size_t bytes)
 {
     const unsigned char *end = (const unsigned char *)__asan_region_is_poisoned(at, bytes);
@@ -408,8 +408,8 @@ PARTMEM_INLINE partmem_status partmem_watched_event(partmem_machine *machine, co
     return status;
 }
 
-/* Reads from a line what it may end. Returns a request, whose kind is 0 if the line ends nothing. The line may be faulty, since
- * nothing is poisoned unless it has ended. */
+/* Returns a request with what a line may end. Its kind is 0 if the line ends nothing. The line may be faulty: after it has run,
+ * only what it has really ended is poisoned. */
 PARTMEM_INLINE partmem_request partmem_watched_read(const char *line, size_t line_len)
 {
     static const struct {
@@ -458,7 +458,7 @@ PARTMEM_INLINE partmem_status partmem_watched_line(partmem_machine *machine, con
 
 /* ---- What lends bytes, and what does neither ----------------------------------------------------------------------------- */
 
-/* Finishes a call that allocates or lends: lends its bytes if it was done. */
+/* Finishes an alloc or a take: lends its bytes if it was done. */
 PARTMEM_INLINE partmem_status partmem_watched_allocated(partmem_tenant tenant, partmem_status status, const partmem_lent *lent)
 {
     partmem_watched_piece piece;
@@ -573,7 +573,7 @@ PARTMEM_WATCHED_QUIET(heap_init, (partmem_heap * heap, partmem_tenant tenant, co
 
 /* ---- Heaps --------------------------------------------------------------------------------------------------------------- */
 
-/* Returns a piece of a heap that begins at an address and has this number of bytes. */
+/* Returns the piece of a heap that begins at an address and has this number of bytes, or an empty piece for 0 bytes. */
 PARTMEM_INLINE partmem_watched_piece partmem_watched_heap_piece(const partmem_heap *heap, void *at, size_t bytes)
 {
     partmem_watched_piece piece = {NULL, NULL, 0};

@@ -1,6 +1,6 @@
-/* The memory functions of libpartmem_watched.a. AddressSanitizer checks the arguments of the C library's functions, but the
- * library has to access bytes that are poison for the program. So the linker makes it call these functions (--wrap in
- * tools/building.py). */
+/* The memory functions of libpartmem_watched.a. AddressSanitizer checks the arguments of the C library's memcpy, memmove and
+ * memset. But partmem has to access bytes that are poison for the program. So the linker makes partmem call these functions
+ * instead (--wrap in tools/building.py). */
 #include <stddef.h>
 
 /* Called in partmem_watched.h, so that a program with the sanitizer does not link with another archive. */
@@ -29,7 +29,7 @@ void *__wrap_memcpy(void *to, const void *from, size_t bytes)
 
 void *__wrap_memmove(void *to, const void *from, size_t bytes)
 {
-    volatile unsigned char *at = to; /* else a compiler may replace the loop by a call of memmove */
+    volatile unsigned char *at = to; /* volatile: or else a compiler may replace the loop by a call of memmove */
     const unsigned char *source = from;
     if ((size_t)at - (size_t)source >= bytes) return __wrap_memcpy(to, from, bytes);
     while (bytes-- > 0) at[bytes] = source[bytes];
