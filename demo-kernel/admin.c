@@ -4,7 +4,7 @@
 
 /* What the words NAME=VALUE of the boot line say. */
 static bool is_noisy;
-static unsigned ticks_between; /* the ticks from one act of the administrator to the next, at least */
+static unsigned ticks_between; /* how many ticks pass at least between two acts */
 static unsigned most_ticks;    /* if partition 0 runs for more ticks, the world ends as starved */
 static uint64_t state;         /* of the pseudo-random numbers */
 unsigned ticks_per_second, ticks_a_turn;

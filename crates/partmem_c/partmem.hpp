@@ -349,8 +349,8 @@ public:
         if (tenant_.machine) static_cast<void>(!partmem_destroy_cache(tenant_, cache_));
     }
 
-    /* Makes this a new cache of the tenant. The cache that it was before is forgotten, unless the new one is refused. Returns
-     * no_machine, no_cache_slot. */
+    /* Makes this a new cache of the tenant. If it was a cache before, that one is not destroyed: it stays until its tenant is
+     * reset. Returns no_machine, no_cache_slot; then this is the cache that it was before. */
     status open(const tenant &tenant) noexcept
     {
         partmem_cache made;
@@ -424,7 +424,7 @@ public:
     heap &operator=(const heap &) = delete;
 
     /* Makes this the heap of a tenant. The heap that it was before is forgotten, even if bad_config or bad_memory is returned.
-     * Returns no_machine, bad_config, bad_memory. */
+     * Its pieces stay. Returns no_machine, bad_config, bad_memory. */
     status open(const tenant &tenant, const partmem_heap_config &config = {}) noexcept
     {
         if (!tenant.get().machine) return status::no_machine;

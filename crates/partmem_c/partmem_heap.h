@@ -83,16 +83,16 @@ typedef struct partmem_heap_config {
  * free of NULL returns DONE. */
 typedef struct partmem_heap {
     partmem_tenant tenant;
-    unsigned char *base; /* with runs, the address of place 0, and in `slots` the number of slots in sequence; else NULL and 0 */
-    uint32_t slots;
-    uint32_t order; /* of a superblock */
-    uint32_t classes;
-    uint16_t size[PARTMEM_HEAP_MOST_CLASSES];                      /* of the objects of a class, in bytes */
-    uint16_t align[PARTMEM_HEAP_MOST_CLASSES];                     /* of the objects of a class */
-    uint8_t cache_of[PARTMEM_HEAP_MOST_CLASSES];                   /* the cache of a class, plus 1; 0 without one */
-    uint8_t class_in[PARTMEM_MOST_CACHES];                         /* the last class that had this cache, plus 1; or 0 */
-    uint8_t class_of[PARTMEM_FRAME_BYTES / PARTMEM_HEAP_STEP + 1]; /* by the steps of a request: its class, or `classes` */
-    /* By slot: how many superblocks the run has that begins there; 0xffff inside a run; else 0. */
+    unsigned char *base; /* with runs: the address of place 0; else NULL */
+    uint32_t slots;      /* with runs: how many slots the tenant had at the initialisation; else 0 */
+    uint32_t order;      /* of a superblock */
+    uint32_t classes;    /* how many classes the heap has */
+    uint16_t size[PARTMEM_HEAP_MOST_CLASSES];                      /* by class: the bytes of its objects */
+    uint16_t align[PARTMEM_HEAP_MOST_CLASSES];                     /* by class: the alignment of its objects */
+    uint8_t cache_of[PARTMEM_HEAP_MOST_CLASSES];                   /* by class: the number of its cache, plus 1; or 0 */
+    uint8_t class_in[PARTMEM_MOST_CACHES];                         /* by cache: the last class that had it, plus 1; or 0 */
+    uint8_t class_of[PARTMEM_FRAME_BYTES / PARTMEM_HEAP_STEP + 1]; /* by size in steps, rounded up: the class, or `classes` */
+    /* By slot: the number of superblocks of the run that begins there, 0xffff inside a run, and 0 otherwise. */
     uint16_t run[PARTMEM_MOST_SUPERBLOCKS];
 } partmem_heap;
 

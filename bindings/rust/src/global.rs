@@ -6,8 +6,7 @@ use core::mem::{self, ManuallyDrop};
 use core::sync::atomic::{AtomicBool, Ordering};
 use core::{fmt, hint, ptr};
 
-/// A lock around a value. With the feature `std` a `std::sync::Mutex` is one. [`SpinLock`] is one without an operating system,
-/// too.
+/// A lock around a value. With the feature `std` a `std::sync::Mutex` is one. [`SpinLock`] works without `std`.
 pub trait Lock<T> {
     /// Runs some work with the value, while nobody else has it.
     fn with<R>(&self, work: impl FnOnce(&mut T) -> R) -> R;
