@@ -68,7 +68,8 @@ def is_plain(path):
 
 def functions(path, offsets, seconds):
     """Returns, by offset, the names that addr2line prints for the functions with these return addresses in a file. Returns no
-    names if addr2line fails, is not installed or needs more than `seconds`. addr2line asks no server for symbols."""
+    names if addr2line fails, is not installed, may not read the file or needs more than `seconds`. addr2line is kept from asking
+    a server for symbols."""
     if seconds <= 0 or not shutil.which('addr2line'):
         return {}
     asked = ''.join(f'{max(offset - 1, 0):x}\n' for offset in offsets)
