@@ -323,7 +323,7 @@ pub said_takes : (text : List ℕ) (said : Body) (rest : List ℕ) → said_at t
 unfolding said_at rare_at notice_at
 said_takes = first_takes kinds all_take
 
--- the first match of all kinds, if the kind at index `count - 1` finds `found`, and the kinds before it find nothing
+-- `first_of kinds text`, if the kinds before index `count - 1` find nothing in `text`, and the kind at that index finds `found`
 abbrev then : ℕ → List ℕ → Option (Body × List ℕ) → Option (Body × List ℕ)
 then count text found = found or_else first_of (drop count kinds) text
 

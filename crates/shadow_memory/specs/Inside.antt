@@ -55,7 +55,7 @@ abbrev pub IsNear : List ℕ → ℕ → Option Cell → Type 0
 IsNear reach place None = Unit {0}
 IsNear reach place (Some cell) = IsHolderNear reach place cell.holder
 
--- if a byte that an object left is within the reach of the object's cache, it still is after the step
+-- the step keeps `IsNear`: if an object's byte is within the reach of its cache, so is the byte that the step makes of it, if any
 abbrev pub StaysNear : CellStep → Type 0
 StaysNear step = (reach : List ℕ) (place : ℕ) (cell : Option Cell)
     → IsNear reach place cell → IsNear reach place (step place cell)
