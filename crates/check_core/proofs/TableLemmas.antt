@@ -1,4 +1,5 @@
--- The text of a report or of a table of owners is read as this table, and a table that is read from a text has this text.
+-- Reading the text of a report or of a table of owners gives back that report or table, and a report or table of owners that is
+-- read from a text has that text.
 use Rattle.std.proofs.Common.{◌≡◌, ℕ, ◌+◌, ◌-◌, ◌^◌, ◌<◌, ◌≤◌, true, cond, List, [], ◌∷◌, ◌++◌, map, length, take, get_or, Option, Some, None, refl, sym, subst, ◌∙◌, ap, arith, append-nil, append_assoc, length-append, take_at}
 use Rattle.std.proofs.lemmas.List.Sums.{count_by-le-length}
 use Rattle.arrayvec.specs.ArrayVec.{ArrayVec}
