@@ -22,7 +22,7 @@ struct pool {
     partmem_tenant tenant;
     uint32_t heads; /* the place of the page block with the first link of each chain */
     uint64_t random;
-    uint64_t hash, bytes; /* a hash of all answers and of all bytes that the client read, and how many bytes these were */
+    uint64_t hash, bytes; /* a hash of all answers and of all bytes that the client read, and how many bytes were hashed */
     uint32_t answers, refusals;
 };
 
@@ -60,8 +60,8 @@ static uint32_t *link_to(const struct pool *pool, uint32_t key) {
     return link;
 }
 
-/* Adds a key, unless it is there. A new object or block has zeroes, or what the client left in it. The client reads these bytes.
- * */
+/* Adds a key, unless it is there. A new object or block has zeroes, or what the client left in it: the client reads these
+ * bytes. */
 static void put(struct pool *pool, uint32_t key) {
     uint32_t *link = link_to(pool, key);
     partmem_lent object, blob;

@@ -7,7 +7,7 @@
 #include "partmem.h"
 
 struct message {
-    uint32_t next; /* a place, since an address would differ from run to run */
+    uint32_t next; /* a place, since a move changes addresses */
     char text[60];
 };
 

@@ -1,4 +1,4 @@
-/* What memory.c declares for boot.c. It is not installed. */
+/* The function of memory.c that boot.c calls. This header is not installed. */
 #ifndef BOOTING_H
 #define BOOTING_H
 

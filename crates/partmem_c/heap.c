@@ -1,5 +1,5 @@
-/* The heap of a tenant, over the direct calls of partmem.h. It stores only the cache of each class, and its runs. It looks up in
- * the library what is live at a place. */
+/* The heap of a tenant, over the direct calls of partmem.h. It stores its classes with their caches, and its runs, but no list of
+ * its pieces: it looks up in the library what is live at a place. */
 #include <stdbool.h>
 #include <string.h>
 
@@ -199,8 +199,8 @@ static void *take_pages(partmem_heap *heap, size_t bytes)
 
 /* ---- Pieces ------------------------------------------------------------------------------------------------------------- */
 
-/* Takes an object of the smallest class that is large enough, has the alignment, and has or gets a cache. If no class does, or if
- * the take is refused, allocates pages, which begin at a multiple of 4096. */
+/* Takes an object of the smallest class that is large enough, has the alignment, and has or gets a cache. If there is no
+ * such class, or if the take is refused, allocates pages, which begin at a multiple of 4096. */
 static void *allocate(partmem_heap *heap, size_t align, size_t bytes)
 {
     partmem_lent object;

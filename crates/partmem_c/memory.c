@@ -32,7 +32,7 @@ struct allocation {
     void *at; /* not NULL */
 };
 
-/* The state of the machine that is booting, or NULL if none is. Then every allocation is refused. */
+/* The state of the machine that is booting, or NULL if none is. While it is NULL, every allocation is refused. */
 static struct state *booting;
 
 /* Returns the state of a booted machine. With __builtin_memcpy the compiler loads only the fields that are used. A plain memcpy

@@ -1,4 +1,4 @@
-/* The functions of partmem.h that are written in C: the texts of statuses, and the version. */
+/* Two functions of partmem.h: one returns the text of a status, the other the version. */
 #include "partmem.h"
 
 static const char *const texts[] = {

@@ -18,7 +18,8 @@
  *                 named by the place of their first byte. A move changes addresses, but no place.
  *     page block  2^k frames, k from 0 to order, at a place that is a multiple of its bytes
  *     cache       objects of one size, in slabs of the tenant's frames. Numbered from 0 in a tenant, the least free number
- *                 first. A new slab fills its objects with the cache's pattern. Later an object is as it was given back.
+ *                 first. The objects of a new slab have the cache's pattern. Later an object has the bytes that it had when it
+ *                 was given back.
  *     lent        what partmem_alloc, partmem_take and the lend functions return: bytes at an address that may be used
  *
  * LIFETIME. Lent bytes stay at their address until their block is freed, their object given back, their slot moved, their
@@ -68,9 +69,10 @@
  *     take that makes a slab                                      2          4          6          6           7
  *
  * An alloc or take that finds a block only in frames of empty slabs first zeroes all empty slabs of the tenant. A kernel that
- * cannot wait so long has small orders and tenants. It reaps a tenant after every 64 of the tenant's gives, since only a give
- * empties a slab; when it reaps may depend only on that tenant's calls. It makes the call in the tenant's own time slice. That
- * helps only if the kernel can interrupt a call: Linux with preempt=full can; with preempt=voluntary or none others wait.
+ * cannot wait so long uses a small order, and tenants with few slots. It reaps a tenant after every 64 of the tenant's gives,
+ * since only a give empties a slab; when it reaps may depend only on that tenant's calls. It reaps in the tenant's own time
+ * slice. This helps only if the kernel can interrupt a call: Linux with preempt=full can; with preempt=voluntary or none other
+ * programs wait.
  *
  * PROCESSOR. x86-64-v2, with the System V calling convention. On an older processor a call may end in an illegal instruction.
  * With gcc and clang `__builtin_cpu_supports("sse4.2") && __builtin_cpu_supports("popcnt")` tests for it.
@@ -205,7 +207,7 @@ typedef struct partmem_memory {
     void *tables; /* PARTMEM_TABLE_BYTES, at a multiple of 16 */
 } partmem_memory;
 
-/* The bytes of the RAM and of the tables, of type size_t. They are constants if the arguments are. */
+/* How many bytes the RAM and the tables of a machine have, of type size_t. Both are constants if the arguments are. */
 #define PARTMEM_RAM_BYTES(order, superblocks) ((size_t)(superblocks) * PARTMEM_FRAME_BYTES << (order))
 #define PARTMEM_TABLE_BYTES(order, superblocks, tenants)                                                                        \
     (((size_t)4096 << (order)) + 256 + 112 * PARTMEM_POWER_OF_2(superblocks) + 288 * PARTMEM_POWER_OF_2(tenants) +              \
@@ -333,8 +335,8 @@ PARTMEM_CHECKED partmem_status partmem_lend(partmem_tenant tenant, uint32_t plac
 PARTMEM_CHECKED partmem_status partmem_lend_object(partmem_tenant tenant, uint32_t cache, uint32_t place, partmem_lent *object);
 
 /* Lends the whole live page block around a place. Only this function and partmem_alloc return frames that may be mapped (duty
- * 11). Before a free it says what to unmap (duty 12). Never map the bytes of partmem_lend: they may be an object's, whose frame
- * later belongs to another tenant. Returns OUT_OF_REACH, for an object's place too. */
+ * 11). Call this function before a free to find what to unmap (duty 12). Never map the bytes of partmem_lend: they may be those
+ * of an object, whose frame later belongs to another tenant. Returns OUT_OF_REACH, for an object's place too. */
 PARTMEM_CHECKED partmem_status partmem_lend_block(partmem_tenant tenant, uint32_t place, partmem_lent *block);
 
 /* Returns the address of bytes that partmem_lend lends, or NULL. */
@@ -394,7 +396,7 @@ typedef struct partmem_object {
     uint32_t bytes;
 } partmem_object;
 
-/* Finds the live object or the live page block that the byte at a place lies in, with the place from which it can be given back
+/* Finds the live object or the live page block that the byte at a place lies in, with the place by which it can be given back
  * or freed. Returns OUT_OF_REACH if the byte is in none: in a free frame or object, or past the last byte of an object. */
 PARTMEM_CHECKED partmem_status partmem_find_object(partmem_tenant tenant, uint32_t place, partmem_object *found);
 
@@ -439,7 +441,7 @@ enum {
     PARTMEM_TAKE_BACK = 2, /* slot */
     PARTMEM_RESET = 3,
     PARTMEM_MOVE = 4,     /* slot */
-    PARTMEM_POOL = 5,     /* of any tenant */
+    PARTMEM_POOL = 5,     /* its tenant may be any number */
     PARTMEM_ALLOC = 6,    /* order */
     PARTMEM_FREE = 7,     /* frame */
     PARTMEM_READ = 8,     /* place, how many bytes */

@@ -21,23 +21,24 @@
  *
  * If a take finds too few frames for a slab, which has up to 8, a page block of one frame is allocated instead. If the tenant
  * has 32 caches, a request whose class has none gets an object of the next class that has one, or else a page block. So the
- * commands follow from the earlier calls of the heap, the tenant's other commands, and its grants, take-backs and resets, except
+ * commands follow from the earlier calls to the heap, the tenant's other commands, and its grants, take-backs and resets, except
  * for whether partmem_heap_init accepts the slots of a heap with runs (RUNS). A tenant gets the same places, sizes and refusals
  * whatever other tenants do. No object has a header, and nothing is kept for each frame: the library finds what is live at a
  * place (partmem_find_object).
  *
  * DIRECT CALLS. A tenant may use direct calls beside its heap. They can use 8 of its 32 caches, or more if the heap has fewer
- * classes. Do not free with the heap what a direct call allocated, nor the other way round. The heap refuses an object of a cache
- * with a number that it never used, or of another size than its class of that number. It cannot distinguish a page block, or any
- * other object, of a direct call from its own. A direct call may reap, and destroy caches of the heap that have no live object.
- * If it makes another cache of that number, the heap takes an object of the wrong size or alignment, notices that, gives it back,
- * and makes a new cache for itself.
+ * classes. Do not free with the heap what a direct call allocated, nor the other way round. The heap refuses an object if no
+ * cache of the heap ever had the number of the object's cache. It also refuses it if the heap's last cache of that number was for
+ * another size. It cannot distinguish a page block, or any other object, of a direct call from its own. A direct call may reap,
+ * and destroy caches of the heap that have no live object. Then a direct call may make another cache with the number of a
+ * destroyed one. If the heap takes an object of this cache, and the size or the alignment is wrong, the heap gives it back and
+ * makes a new cache for itself.
  *
  * RUNS. Without runs nothing in the heap depends on superblocks or addresses. With runs (has_runs) a request larger than a
  * superblock takes superblocks, from the first free one on, until enough lie in a row; the others are freed again. So the slots
  * of the tenant have to lie one after another in RAM. They do if all are granted in a row at the start. partmem_heap_init refuses
- * other slots. Slots that are granted later become part of no run. From then on move no slot of the tenant, and take none back.
- * [Otherwise a run with that slot leads to memory that others own by then, and which requests are refused depends on
+ * other slots. Slots that are granted later become part of no run. After partmem_heap_init move no slot of the tenant, and take
+ * none back. [Otherwise a run with that slot leads to memory that others own by then, and which requests are refused depends on
  * superblocks.]
  *
  * ADDRESSES. Duty 6 of partmem.h forbids storing addresses in lent bytes. Each program that calls malloc does that. If a tenant
@@ -53,9 +54,9 @@
  * allocated again; and time. With partmem_watched.h AddressSanitizer and valgrind see most of the first two.
  *
  * DUTIES. Those of partmem.h, except that config and the address of a piece may be NULL, and that an address may have any value.
- * A call of a heap counts as a call on its machine: make one at a time. Heap and config lie outside of the machine's memory. Only
+ * A call to a heap counts as a call on its machine: make one at a time. Heap and config lie outside of the machine's memory. Only
  * these functions read or write a heap; it may be copied elsewhere if the old one is not used again. A tenant has one heap: calls
- * of a second one count as direct calls. Before partmem_heap_init, after a reset of the tenant and after the machine's end, a
+ * to a second one count as direct calls. Before partmem_heap_init, after a reset of the tenant and after the machine's end, a
  * heap is not used until it is initialised, unless all of it is 0.
  *
  * PROVED: what each command of the heap does. TESTED: all of heap.c, and the functions in C that it uses, partmem_find_place and
@@ -70,7 +71,7 @@ extern "C" {
 #endif
 
 #define PARTMEM_HEAP_MOST_CLASSES 24u /* of a heap: a tenant has 32 caches */
-#define PARTMEM_HEAP_STEP 16u         /* the sizes of classes are multiples of it, and so are all addresses */
+#define PARTMEM_HEAP_STEP 16u         /* the sizes of classes, and the addresses of pieces, are multiples of it */
 
 /* How to set up a heap. All 0 means the default classes and no runs. */
 typedef struct partmem_heap_config {

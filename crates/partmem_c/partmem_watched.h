@@ -88,7 +88,7 @@ PARTMEM_INLINE void partmem_watched_forget(unsigned char *superblock, size_t byt
     __asan_unpoison_memory_region(superblock, bytes);
 }
 
-/* Returns how many of the bytes at an address are lent, up to the first that is not lent. */
+/* Returns how many bytes from an address on are lent, up to the first that is not lent, but at most `bytes`. */
 PARTMEM_INLINE size_t partmem_watched_lent(unsigned char *at, size_t bytes)
 {
     const unsigned char *end = (const unsigned char *)__asan_region_is_poisoned(at, bytes);
@@ -278,7 +278,7 @@ PARTMEM_INLINE partmem_status partmem_watched_end(partmem_machine *machine)
 
 /* ---- What ends a lifetime ------------------------------------------------------------------------------------------------ */
 
-/* What a command may end: a live block or object, and everything in some slots. */
+/* What a command may end: a live block or object, or everything in some slots. */
 typedef struct partmem_watched_ending {
     partmem_tenant tenant;
     uint32_t place;
@@ -584,7 +584,7 @@ PARTMEM_INLINE partmem_watched_piece partmem_watched_heap_piece(const partmem_he
     return piece;
 }
 
-/* Finishes a call of a heap that allocates. The first `kept` bytes have values. */
+/* Finishes a malloc, calloc, aligned_alloc or realloc of a heap. The first `kept` bytes have values. */
 PARTMEM_INLINE void *partmem_watched_heap_allocated(const partmem_heap *heap, void *at, size_t bytes, size_t kept)
 {
     if (at != NULL) partmem_watched_begin(partmem_watched_heap_piece(heap, at, bytes > 0 ? bytes : 1), kept);

@@ -1,4 +1,5 @@
-//! Everything that this program allocates lies in the memory of one tenant, in a static. Another tenant gets the rest.
+//! Everything that this program allocates lies in the memory of one tenant, in a static. Another tenant is granted
+//! one superblock, and has its own heap there.
 use partmem::{Config, Error, Global, LazyHeap, Machine, StaticMemory, Tenant};
 use std::collections::BTreeMap;
 use std::sync::Mutex;
@@ -7,7 +8,7 @@ const CONFIG: Config = Config { order: 6, superblocks: 16, tenants: 2 };
 const OWN: Tenant = Tenant(0);
 static MEMORY: StaticMemory<{ CONFIG.ram_bytes() }, { CONFIG.table_bytes() }> = StaticMemory::new();
 
-/// Boots the machine in the static, with 2 MiB for the program. This function may not allocate.
+/// Boots the machine in the static, with 2 MiB for the program. This function must not allocate.
 fn open() -> Result<(Machine, Tenant), Error> {
     let machine = Machine::boot_in(CONFIG, MEMORY.take().ok_or(Error::NoMemory)?)?;
     for _ in 0..8 {

@@ -14,7 +14,7 @@ impl Drop for Session<'_> {
     }
 }
 
-/// Takes objects for numbers until the client has no frames, and returns how many it took.
+/// Takes an object for each number, from 0, until the client has no free frames. Returns how many objects it took.
 fn fill(client: &Client<'_>) -> Result<usize, Error> {
     let numbers = client.cache_of::<u64>()?;
     let all: Vec<_> = (0..).map_while(|number| numbers.take(number).ok()).collect();

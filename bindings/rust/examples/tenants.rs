@@ -1,7 +1,7 @@
 //! Two tenants with a heap each. The first allocates until nothing is left, and is reset; the second does not notice.
 use partmem::{Boxed, Client, Config, Error, Heap, Machine};
 
-/// A list in a heap, whose values hold the addresses of each other.
+/// A node of a linked list in a heap: it holds the address of the next node.
 struct Node<'h> {
     number: u64,
     next: Option<Boxed<'h, Node<'h>>>,

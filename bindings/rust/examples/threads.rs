@@ -1,4 +1,5 @@
-//! Lent bytes are used on other threads, without a lock, while this one calls the machine. Then threads share the machine.
+//! Lent bytes are used on other threads, without a lock, while the main thread calls the machine. Then threads share
+//! the machine behind a lock.
 use partmem::{Config, Error, Machine, Tenant};
 use std::sync::Mutex;
 use std::thread::scope;

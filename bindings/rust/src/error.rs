@@ -29,7 +29,8 @@ pub enum Error {
     /// The [`Memory`](crate::Memory) of a machine is too small or not aligned, or the slots for a heap with runs do not lie in a
     /// row.
     BadMemory,
-    /// An allocation failed. If a heap returns it, its tenant has too few frames, or the request is too large.
+    /// An allocation failed. A heap returns it if no free block of its tenant is large enough, or if the alignment of the value
+    /// is above 4096.
     NoMemory,
     /// The pattern of a cache does not have 1 to 16 bytes.
     BadPattern,

@@ -59,7 +59,7 @@ impl<T> Lock<T> for SpinLock<T> {
 /// allocates: an allocation in it would wait forever.
 pub type Open = fn() -> Result<(Machine, Tenant), Error>;
 
-/// A heap with its machine, which never ends. The first allocation opens it.
+/// A heap with its machine, which never ends. The first allocation, or an earlier [`Global::with_others`], opens the machine.
 #[derive(Debug)]
 pub struct LazyHeap(State);
 
@@ -149,7 +149,7 @@ impl<L: Lock<LazyHeap>> Global<L> {
         })
     }
 
-    /// Runs some work with the heap, and returns what it returns. Returns null if the heap could not be opened.
+    /// Runs some work with the heap, and returns the address that the work returns. Returns null if the heap could not be opened.
     fn with_heap(&self, work: impl FnOnce(&RawHeap) -> *mut u8) -> *mut u8 {
         let aborts = AbortsIfUnwound;
         let at = self.0.with(|lazy| lazy.heap().map_or(ptr::null_mut(), work));
@@ -184,8 +184,8 @@ unsafe impl<L: Lock<LazyHeap>> GlobalAlloc for Global<L> {
     }
 
     unsafe fn realloc(&self, at: *mut u8, old: Layout, bytes: usize) -> *mut u8 {
-        // SAFETY: the caller has made sure that this is a layout. It has the piece from this heap with the old layout; if this
-        // succeeds, it does not use the old one again.
+        // SAFETY: the caller has made sure that the new size and alignment are a layout. It has the piece from this heap with the
+        // old layout. After a success it does not use `at` again.
         self.with_heap(|heap| unsafe { heap.resize(at, old, Layout::from_size_align_unchecked(bytes, old.align())) })
     }
 }

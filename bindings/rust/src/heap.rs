@@ -14,7 +14,7 @@ const STEP: usize = 16;
 pub(crate) struct RawHeap(UnsafeCell<sys::Heap>);
 
 impl RawHeap {
-    /// Returns the functions of a new heap. Without sizes the heap has the default classes.
+    /// Initialises a heap. If there are no sizes, it has the default classes.
     pub(crate) fn new(tenant: sys::Tenant, sizes: &[u16], has_runs: bool) -> Result<RawHeap, Error> {
         // A copy, since the sizes may lie in lent bytes.
         let mut copy = [0; sys::MOST_CLASSES];
@@ -26,7 +26,7 @@ impl RawHeap {
         Ok(RawHeap(UnsafeCell::new(raw)))
     }
 
-    /// Allocates at least one byte. Returns null if there is no memory, or if the alignment is above 4096.
+    /// Allocates memory of a layout, at least one byte. Returns null if there is no memory, or if the alignment is above 4096.
     pub(crate) fn allocate(&self, layout: Layout) -> *mut u8 {
         // SAFETY: the heap was initialised, and its machine is booted.
         unsafe { sys::partmem_heap_aligned_alloc(self.0.get(), layout.align().max(STEP), layout.size()) }
@@ -35,7 +35,7 @@ impl RawHeap {
     /// # Safety
     /// The piece is from this heap, and is not used again.
     pub(crate) unsafe fn free(&self, at: *mut u8) {
-        // SAFETY: as said above. At another address the heap frees nothing.
+        // SAFETY: as said above. If nothing live begins at the address, the heap frees nothing.
         let status = unsafe { sys::partmem_heap_free(self.0.get(), at) };
         debug_assert_eq!(status, 0, "no piece of the heap begins there");
     }
@@ -43,7 +43,7 @@ impl RawHeap {
     /// Changes the size of a piece. Returns null if there is no memory; then nothing has changed.
     ///
     /// # Safety
-    /// The piece is from this heap, with the layout `old`. If it moves, the old one is not used again.
+    /// The piece is from this heap, with the layout `old`. Unless this returns null, `at` is not used again.
     pub(crate) unsafe fn resize(&self, at: *mut u8, old: Layout, new: Layout) -> *mut u8 {
         if new.align().max(old.align()) <= STEP {
             // SAFETY: as said above.
@@ -51,7 +51,7 @@ impl RawHeap {
         }
         let to = self.allocate(new);
         if !to.is_null() {
-            // SAFETY: both pieces have as many bytes, and a new piece is apart from all others.
+            // SAFETY: both pieces have at least the bytes that are copied, and a new piece is apart from all others.
             unsafe {
                 ptr::copy_nonoverlapping(at, to, old.size().min(new.size()));
                 self.free(at);
@@ -83,7 +83,7 @@ impl RawHeap {
 ///
 /// # Runs
 /// With runs a request larger than a superblock gets superblocks that lie in a row. The tenant's slots have to be 0, 1, 2 .., and
-/// to lie in RAM one after another, as they do after grants at the start.
+/// to lie in RAM one after another. They do if all of them are granted in a row after the boot.
 pub struct Heap<'c> {
     raw: RawHeap,
     /// A second client of the tenant, which is not public. As long as the heap lives, the first one is borrowed, or is in an
@@ -91,7 +91,7 @@ pub struct Heap<'c> {
     client: Client<'c>,
 }
 
-/// A [`Heap`] that owns its client and does not borrow it, for a list of guests. It derefs to the heap.
+/// A [`Heap`] that owns its client and does not borrow it, so that a list can hold heaps of many tenants. It derefs to the heap.
 #[derive(Debug)]
 pub struct OwnedHeap<'a> {
     heap: Heap<'a>,
@@ -256,7 +256,7 @@ mod allocator {
         }
 
         unsafe fn grow(&self, at: NonNull<u8>, old: Layout, new: Layout) -> Result<NonNull<[u8]>, AllocError> {
-            // SAFETY: the caller has it from this heap with the old layout. If this succeeds, it does not use the old one again.
+            // SAFETY: the caller has the piece from this heap with the old layout. After a success it does not use `at` again.
             memory(unsafe { self.raw.resize(at.as_ptr(), old, new) }, new)
         }
 

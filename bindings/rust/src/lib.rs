@@ -52,7 +52,8 @@
 //! - Any number of handles may be lent at once, also during `alloc`, `take`, `lend` and `report`, which need only `&Machine`.
 //! - `free` and `give` consume their handle, so nobody has its bytes. Other handles may be lent meanwhile.
 //! - `move_slot`, `reset` and the drop of the machine require that nothing is lent. Handles stay through a move, and can be lent
-//!   again. A lend compares two numbers. After a move it also calls the library, until a `lend_mut` has found the new address.
+//!   again. A lend makes two comparisons. After a move it also calls the library, until a `lend_mut` has stored the new address
+//!   in the handle.
 //! - Handles can lie beside the machine in one struct. Typed values and what a heap allocates borrow their [`Client`], so they
 //!   cannot.
 //! - Dropping a handle leaves its bytes allocated until a reset. After a reset, or on another machine, a handle is
@@ -60,7 +61,7 @@
 //! - Links between objects are places, stored as numbers in lent bytes. [`Machine::lend_at`] follows them. It needs
 //!   `&mut Machine`, since a handle of the same bytes may be lent.
 //! - A machine is `Send` and not `Sync`, since calls are one at a time: threads share a `Mutex<Machine>`. Then a lend borrows the
-//!   lock's guard. Without a mutex, lent bytes may be used on other threads of a scope while this one makes calls.
+//!   lock's guard. Without a mutex, other threads of a scope may use lent bytes while the machine's own thread makes calls.
 //! - A move or a reset of one client requires that nobody's bytes are lent, which is stricter than the library. After a
 //!   [`Machine::split`] it requires only that this client's are not.
 //!
@@ -136,15 +137,17 @@
 //!
 //! # What types cannot keep
 //!
-//! The header ends in a list of duties. The crate fulfils those about machines, arguments, bounds, endings, threads and reused
-//! numbers. These are left to you:
+//! The header ends in a list of duties. The crate fulfils those about machines, arguments, memory, bounds, endings, threads and
+//! reused numbers. These are left to you:
 //!
 //! - *Flows.* Do not store for one tenant what was loaded for another, and do not show it to that tenant. Do not store an
 //!   address, such as the `as_ptr` of a lend, in lent bytes, or show it to a tenant. Values with references, and collections, are
 //!   full of addresses: such a tenant may learn of others, as `partmem_heap.h` says.
 //! - *Users.* Code that has the machine can act for any tenant, and `lend_at` reaches every live object. Do not give them to a
 //!   tenant's user. A [`Client`] acts only for its tenant.
-//! - *After the end.* The memory goes back to the allocator with the tenants' bytes in it. Overwrite secrets before.
+//! - *Ring 0.* A kernel has to keep this duty, which is about its stack and its registers.
+//! - *After the end.* The memory of [`Machine::boot`] goes back to the allocator with the tenants' bytes in it. Overwrite secrets
+//!   before you drop the machine.
 //! - *Booting.* The crate boots one machine at a time. C code in the same program must not boot another at the same time.
 //! - *Other code.* Make no call from a signal handler, nor from the forked child of a process with threads. The compiler sees no
 //!   page tables and no devices: unmap and stop them before a free, reset, move or end.

@@ -26,7 +26,7 @@ pub(crate) fn result<T: Default>(call: impl FnOnce(&mut T) -> u32) -> Result<T, 
 pub struct Handle<Kind> {
     /// The stamp that the tenant had when the handle was made. A reset gives the tenant a new one.
     stamp: u64,
-    /// How many moves the machine had made when `at` was found.
+    /// How many moves had been requested of the machine when `at` was found.
     moves: u64,
     at: *mut u8,
     pub(crate) tenant: Tenant,
@@ -86,7 +86,7 @@ pub struct Machine {
     owned: Option<Region>,
     /// The stamp of each tenant. A reset gives the tenant a new one, so that older handles are refused.
     stamps: [Cell<u64>; MOST_TENANTS],
-    /// The number of moves so far. If a handle has the same number, its address is right.
+    /// How many moves have been requested, including refused ones. If a handle has the same number, its address is right.
     moves: Cell<u64>,
 }
 
@@ -152,7 +152,7 @@ impl Machine {
         sys::Tenant(self.raw.as_ptr(), tenant.0)
     }
 
-    /// Returns the tenant, or refuses a handle of another machine or from before a reset.
+    /// Returns the tenant. Fails with `Stale` for a handle of another machine, from before a reset, or of a destroyed cache.
     fn check(&self, tenant: Tenant, stamp: u64) -> Result<sys::Tenant, Error> {
         let same = self.stamps.get(tenant.0 as usize).map(Cell::get) == Some(stamp);
         same.then_some(self.of(tenant)).ok_or(Error::Stale)
@@ -345,8 +345,8 @@ impl Machine {
     pub(crate) unsafe fn lend_shared(&self, tenant: Tenant, place: Place, bytes: u32) -> Result<&mut [u8], Error> {
         let at = self.address(self.of(tenant), place, bytes)?;
         // SAFETY: the bytes live while the machine is borrowed, and nobody else has them. A typed value that was leaked may have
-        // padding, to which Rust gives no values. But the call above is code outside of Rust: as far as the compiler knows, it
-        // has written them all.
+        // padding, to which Rust gives no values. But the call above is code outside of Rust: as far as the compiler knows, that
+        // code has written all these bytes.
         Ok(unsafe { slice::from_raw_parts_mut(at, bytes as usize) })
     }
 }

@@ -70,7 +70,7 @@ pub(crate) struct Region {
 }
 
 impl Memory {
-    /// Returns the memory of two slices of bytes.
+    /// Returns two slices of bytes as the memory of a machine.
     pub fn of_bytes(ram: &'static mut [u8], tables: &'static mut [u8]) -> Memory {
         // SAFETY: nobody reads these bytes as numbers again, since the slices are borrowed for ever.
         let without_values = |bytes: &'static mut [u8]| unsafe { &mut *(bytes as *mut [u8] as *mut [MaybeUninit<u8>]) };

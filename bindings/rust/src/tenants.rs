@@ -6,7 +6,7 @@ use core::{fmt, ptr};
 #[derive(Clone, Copy)]
 pub struct Administrator<'a>(&'a Machine);
 
-/// A tenant of a machine that is divided by [`Machine::split`], and its only handle. Code that has it acts only for this tenant.
+/// The only handle of a tenant, in a machine that is divided by [`Machine::split`]. Code that has it acts only for this tenant.
 ///
 /// It has the calls of [`Machine`] for one tenant. What is lent borrows the client, and a handle of another tenant is
 /// [`Error::Stale`] here.

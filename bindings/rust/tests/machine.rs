@@ -120,7 +120,7 @@ struct User {
     seen: Vec<String>,
 }
 
-/// Lends everything that a user has at once. Checks that the bytes are the stored ones, and that no two lends overlap.
+/// Lends all these handles at once. Checks that each has only bytes with its value, and that no two lends overlap.
 fn check<Kind>(machine: &Machine, handles: &mut [(Handle<Kind>, u8)]) {
     let mut lends: Vec<_> = handles.iter_mut().map(|(handle, fill)| (machine.lend_mut(handle).unwrap(), *fill)).collect();
     lends.sort_by_key(|(bytes, _)| bytes.as_ptr());

@@ -13,7 +13,7 @@ fn grant(administrator: Administrator<'_>, client: &Client<'_>, slots: u32) {
     }
 }
 
-/// Runs some work with the administrator and two clients, which have slots.
+/// Runs some work with the administrator and two clients, after each client was granted `slots` slots.
 fn with_two<R>(slots: u32, work: impl FnOnce(Administrator<'_>, Client<'_>, Client<'_>) -> R) -> R {
     let mut machine = Machine::boot(CONFIG).unwrap();
     let (administrator, mut clients) = machine.split();
@@ -23,7 +23,7 @@ fn with_two<R>(slots: u32, work: impl FnOnce(Administrator<'_>, Client<'_>, Clie
     work(administrator, first, second)
 }
 
-/// A value that counts when it is dropped.
+/// A value whose drop adds 1 to a counter.
 #[derive(Debug)]
 struct Counted<'c>(&'c Cell<u32>);
 
@@ -129,7 +129,7 @@ fn values_lie_at_their_alignment() {
     });
 }
 
-/// A list in a heap.
+/// A node of a linked list in a heap: its number, and the next node.
 struct Node<'h>(u32, Option<Boxed<'h, Node<'h>>>);
 
 /// Fills a heap with the nodes of a list, and leaks them. Returns how many there are.

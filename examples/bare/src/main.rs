@@ -1,5 +1,6 @@
-//! A program that needs only `core` and `alloc`, as a kernel does. All its memory is in a static. Tenant 0 is the program's own
-//! heap, and another tenant has typed values. Here the C library starts the program, which returns 0 if all was right.
+//! A program that needs only `core` and `alloc`, as a kernel does. All its memory is in a static. The program's own heap is
+//! the heap of tenant 0, and another tenant has typed values. Here the C library starts the program, which returns 0 if all was
+//! right.
 #![no_std]
 #![no_main]
 extern crate alloc;
