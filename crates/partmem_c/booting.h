@@ -1,4 +1,4 @@
-/* The function of memory.c that boot.c calls. This header is not installed. */
+/* A function of memory.c for boot.c. This header is not installed. */
 #ifndef BOOTING_H
 #define BOOTING_H
 
