@@ -158,7 +158,7 @@ typedef enum partmem_status {
     PARTMEM_NO_SUPERBLOCK = 37,    /* the machine has no superblock of that number */
     PARTMEM_NOT_HELD = 38,         /* the address is not in a superblock of that tenant */
     PARTMEM_NOT_A_LINE = 39,       /* the text has a line feed */
-    PARTMEM_NOT_AN_EVENT = 40,     /* there is no such kind, or it has too few or too many bytes */
+    PARTMEM_NOT_AN_EVENT = 40,     /* no event has this kind, or the event has too few or too many bytes */
     PARTMEM_BUFFER_TOO_SMALL = 41, /* the buffer is smaller than the function requires */
 
     PARTMEM_STATUS_BITS = 0x7fffffff /* no status: it makes the type 32 bits wide */
