@@ -1,7 +1,7 @@
 """Compares crates/partmem_c/partmem.h, and two functions that memory.c declares, with the exports, structs and constants of the
 crate's source.
 
-Fails if the header has text that it does not compare, or if it could not read an export or a struct of the source."""
+Fails if they differ, if the header has text that is not compared, or if an export or a struct of the source was not read."""
 import glob
 import re
 import sys
@@ -60,8 +60,8 @@ def constants(text):
     return re.findall(r"PARTMEM_(\w+) = (\w+)", text)
 
 
-# Maps names of structs in Rust to names in the header. exports_of_source adds the structs of parameters, as a parameter has the
-# same position in both. structs_of_source adds those of table rows.
+# Maps names of structs in Rust to names in the header. exports_of_source adds the structs of parameters, because a parameter
+# has the same position in the source and in the header. structs_of_source adds the structs of table rows.
 names = {"MachineStorage": "partmem_machine"}
 
 
@@ -122,7 +122,7 @@ def structs_of_header(structs):
 
 
 def structs_of_source(in_header):
-    """Yields the structs of the source, except the two that hold a machine, which C does not see."""
+    """Yields the structs of the source, except MachineStorage and Slot, whose fields the header does not show."""
     structs = re.findall(r"#\[repr\(C\)\]\s*(?:#\[[^\]]*\]\s*)*pub struct (\w+) \{(.*?)\n\}", source, re.S)
     if len(structs) != source.count("repr("):
         fail(f"the source has {source.count('repr(')} structs for C, of which {len(structs)} were read")

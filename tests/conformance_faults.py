@@ -163,7 +163,7 @@ LISTS = [
     Fault('slots', 'blocks are joined only in slots 0 to 63', 'Room Blocks Refusals Failed', [
         ('    while (joined < top) {',
          '    while (joined < top && frame / frames < 64) {')], 160),
-    Fault('slots', 'slots 0 to 63 are searched', 'Owners Refusals', [
+    Fault('slots', 'only slots 0 to 63 are searched', 'Owners Refusals', [
         ('for (*slot = 0; holds(of, *slot); ++*slot)',
          'for (*slot = 0; holds(of, *slot) && *slot < 64; ++*slot)')], 70),
     Fault('slots', 'a free makes the slot 64 below look empty', 'Busy Refusals', [
@@ -303,7 +303,7 @@ SLABS = [
         ('length, count;\n',
          'length;\n'
          '    uint8_t count;\n')], 1600),
-    Fault('slots', 'slots 0 to 63 are searched', 'Room', [
+    Fault('slots', 'only slots 0 to 63 are searched', 'Room', [
         ('    for (uint32_t slot = 0; slot < count; slot++) {\n'
          '        uint8_t *tree',
          '    for (uint32_t slot = 0; slot < count && slot < 64; slot++) {\n'

@@ -1,12 +1,14 @@
 /* A buddy allocator like Linux's, behind conformance/adapter.h. tests/conformance makes wrong copies of it. Each tenant has a
- * list of free blocks for each order, last in first out. A freed block is joined with its free buddy. It has no caches. */
+ * list of free blocks for each order, last in first out. A freed block is joined with its buddy as long as the buddy is
+ * free. The allocator has no caches. */
 #include "adapter.h"
 #include <stdlib.h>
 #include <string.h>
 
 enum kind { INSIDE, FREE, TAKEN };
 
-/* A frame of a tenant. The first frame of a block has the block's kind and order, and a free block's neighbours in its list. */
+/* A frame of a tenant. The first frame of a block has the block's kind and order and, if the block is free, its neighbours in the
+ * list. */
 struct page {
     uint8_t kind, order;
     uint32_t next, before;

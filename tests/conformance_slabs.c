@@ -1,6 +1,6 @@
-/* A buddy allocator with caches, behind conformance/adapter.h. tests/conformance makes wrong copies of it. Each slot has a tree,
- * whose node for a block has the greatest order of a free block within it. A block comes from the first slot that has a free one
- * large enough. A cache keeps its empty slabs until frames are short. The records of slabs are outside the frames. */
+/* A buddy allocator with caches, behind conformance/adapter.h. tests/conformance makes wrong copies of it. Each slot has a tree.
+ * The node of a block has the greatest order of a free block inside this block. A block comes from the first slot that has a free
+ * block large enough. A cache keeps its empty slabs until frames are short. The records of slabs are outside the frames. */
 #include "adapter.h"
 #include <stdlib.h>
 #include <string.h>
@@ -233,7 +233,7 @@ enum reply release(unsigned tenant, uint32_t frame, unsigned *order) {
     return DONE;
 }
 
-/* Returns the slab of a cache that has the place, or NULL. */
+/* Returns the slab of this cache that contains the place, or NULL. */
 static struct slab *slab_at(struct cache *cache, uint32_t place) {
     for (struct slab *slab = cache->slabs; slab < cache->slabs + cache->count; slab++)
         if (place / FRAME_BYTES >= slab->first && place / FRAME_BYTES < slab->first + (1u << cache->order))

@@ -163,7 +163,7 @@ static void check_runs(void)
     MUST(partmem_heap_free(&heap, block) == PARTMEM_DONE);
 }
 
-/* Replaces the heap's cache of a class, by direct calls, by a cache of this size and alignment 8. Returns the cache's number. */
+/* Destroys the heap's cache of a class with a direct call, and makes one of this size and alignment 8. Returns its number. */
 static uint32_t replace_cache(uint32_t class_size, uint32_t size)
 {
     partmem_cache made;

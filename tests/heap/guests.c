@@ -34,7 +34,7 @@ enum { PROGRAMS = LEN(programs), STABLE = 2 * PROGRAMS, GUESTS = 2 * STABLE, LIB
 bool shows_addresses;
 static bool has_outsider;
 static partmem_machine machine;
-static struct guest guests[GUESTS + 1], *current; /* the last one has the libraries' own state */
+static struct guest guests[GUESTS + 1], *current; /* the last of the guests has the libraries' own state */
 static unsigned char *ram;
 
 /* ---- The heaps of guests ------------------------------------------------------------------------------------------------ */

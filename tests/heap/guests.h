@@ -1,5 +1,5 @@
-/* Declarations that the programs of guests.c share. Each program uses a third-party library, whose memory all comes from the heap
- * of a guest. Each guest is a tenant. */
+/* Declarations that the programs of guests.c share. Each program uses a third-party library. A guest is a tenant that runs one of
+ * the programs in its own heap. State that a library shares among guests is in the heap of one more tenant. */
 #ifndef GUESTS_H
 #define GUESTS_H
 
@@ -13,11 +13,11 @@ struct guest {
     const struct program *program;
     uint64_t random;
     uint64_t results, places; /* hashes of all results, and of the places of all pieces */
-    unsigned long calls, refused, failed, steps; /* calls of the heap, and refused ones; steps short of memory, and all */
+    unsigned long calls, refused, failed, steps; /* calls to the heap; refused ones; failures for lack of memory; steps */
     void *state[STATES];                         /* what the program keeps between its steps */
 };
 
-/* A program, and how many superblocks of 128 KiB its guest gets: so few that it sometimes runs out of memory. */
+/* A program. Each of its guests gets `slots` superblocks of 128 KiB, so few that the program sometimes runs out of memory. */
 struct program {
     const char *name;
     uint32_t slots;

@@ -5,7 +5,7 @@
 
 #include "guests.h"
 
-/* The result of a step does not depend on the order of a table's keys. This order depends on addresses and the time. */
+/* The result of a step does not depend on the order of a table's keys. That order depends on addresses and the time. */
 static const char source[] =
     "local kept, count = {}, 0\n"
     "local function work(i)\n"

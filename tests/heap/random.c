@@ -1,13 +1,14 @@
-/* Makes random calls of heaps, and compares what they return with a model. Four tenants each use a heap and direct calls. A piece
+/* Makes random calls to heaps, and compares what they return with a model. Four tenants each use a heap and direct calls. A piece
  * that a heap returns has the requested bytes and alignment, shares no byte with anything else that is live, and keeps its bytes.
- * A wrong free is refused and changes nothing. A request is refused only if the tenant has no frames for it.
+ * A wrong free is refused and changes nothing. A request is refused only if the tenant has no frames for it, or if it is for more
+ * than a superblock and the heap has no runs.
  *
  * Two more tenants do the same, and are reset at random. Then each of the four runs alone, on another machine and on other
  * superblocks. The commands that reach the library, their results, and all that the heap returns have to be the same as before.
  *
  *     random ORDER CALLS SEED
  *
- * It is linked with --wrap=NAME for each function __wrap_NAME below.
+ * The program is linked with --wrap=NAME for each function __wrap_NAME below.
  */
 #include "partmem_heap.h"
 #include "trial.h"
@@ -173,7 +174,7 @@ static uint32_t longest_row(const struct user *user)
     return longest;
 }
 
-/* Checks that a request was refused because the tenant has no frames for it. */
+/* Checks a refused request: the tenant has no frames for it, or it is for more than a superblock and the heap has no runs. */
 static void check_refused(struct user *user, size_t bytes)
 {
     partmem_lent block;
