@@ -125,8 +125,8 @@ class Tenant:
         return found
 
     def choose(self, order):
-        """Returns the first frame of the block that a request of this order gets. If no free block is large enough, but one would
-        be without the empty slabs, frees all empty slabs first."""
+        """Returns the first frame of the block that a request of this order gets. If no free block is large enough until
+        the empty slabs are freed, frees all empty slabs first."""
         for also in (), ("empty",):
             fitting = [block for block in self.free_blocks(also) if block[0] >= order]
             if fitting:
@@ -207,7 +207,8 @@ class Tenant:
         return f"destroyed {self.free_slabs(lambda slab: slab.number == number)}"
 
     def slab_with_free_object(self, number):
-        """Returns the partial slab with the least frame, or else the empty one with the least frame, or else a new one."""
+        """Returns the cache's partial slab with the least first frame, or else its empty slab with the least first frame, or else
+        a new slab."""
         cache = self.cache_of(number)
         for kind in "partial", "empty":
             its = [first for first, slab in self.slabs.items() if slab.number == number and slab.kind() == kind]
@@ -262,7 +263,7 @@ class Machine:
         self.tenants = [Tenant(order) for _ in range(tenants)]
 
     def answer(self, line):
-        """Returns the reply lines to a line of a trace, which has no LF."""
+        """Returns the reply lines to a line of a trace. The line is given without its LF."""
         try:
             said = command_of(line)
         except Fault as fault:

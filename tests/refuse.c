@@ -1,9 +1,9 @@
 /* A library that is loaded before the C library. It counts the allocations of a process from 1 on, and refuses the one whose
- * number is the environment variable REFUSED.
+ * number is in the environment variable REFUSED.
  *
- * If the environment variable COUNTED names a file, a line is added to it when the process ends: the number of allocations before
- * the first read, and the number of those after it, or `none` if nothing was read. A process that is ended by a signal adds no
- * line.
+ * If the environment variable COUNTED names a file, a line with two words is added to this file when the process ends. The first
+ * word is the number of allocations before the first read. The second is the number of allocations after it, or `none` if nothing
+ * was read. A process that is ended by a signal adds no line.
  */
 #define _GNU_SOURCE
 #include <dlfcn.h>

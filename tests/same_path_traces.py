@@ -1,7 +1,7 @@
-"""Pairs of traces for tests/same-path: a mixed one of several tenants, and for each tenant its own list alone.
+"""Makes the traces of tests/same-path: a mixed one of several tenants, and for each tenant one with only its own list.
 
 A tenant's own list is its commands with the grants, take-backs and resets that the administrator did for it. Only the mixed trace
-has refused grants and take-backs, moves, and the commands of the other tenants. Each line depends on the library's replies to
+has moves, `admin pool`, broken lines, refused grants and take-backs, and the commands of the other tenants. Each line depends on the library's replies to
 the lines before, so the traces use the frames and places that the library returns. The same seed makes the same traces.
 """
 import random
@@ -69,7 +69,7 @@ class Tenant:
         return [cache] if kind in ("destroy", "take") else []
 
     def faulty(self, kind, draw):
-        """Returns arguments most of which are refused."""
+        """Returns arguments with which the command is refused in most cases."""
         some = draw.choice((0, 7, 33, 4097, 2**20, 2**32 - 1))
         if kind in ("read", "write"):
             count = draw.choice((0, 1, 64, 65, 2**32 - 1)) if kind == "read" else draw.choice((1, 64))
@@ -191,8 +191,7 @@ class Pair:
 class LongPair(Pair):
     """Like Pair, but each tenant has two caches of 200 slabs, so that the library keeps their lists in groups of slabs.
 
-    A slab has two objects, so it is full, partial or empty, and most commands move a slab into the middle of another list. A
-    tenant gives back one object of most slabs of a cache, slot by slot, then the other one, and then takes all of them again.
+    A slab has two objects, so each `take` and `give` moves a slab to another list, mostly into the middle of it. A tenant gives back one object of most slabs of a cache, slot by slot, then the other one, and then takes all of them again.
     Most of its commands are not followed, to save time.
     """
 

@@ -1,7 +1,7 @@
 /* Boots machines of each order with each number of superblocks, with each number of tenants, and with every tenth number of
  * superblocks together with every third number of tenants. Sizes outside the ranges have to be refused. Checks what each machine
  * reports about itself, and that a call writes no byte that it may not write. partmem_end has to leave zeroes in the
- * partmem_machine. Also refuses each allocation of a boot in turn, so it is linked with library_memory.c. */
+ * partmem_machine. Also refuses each allocation of two boots in turn, so it is linked with library_memory.c. */
 #include <stdbool.h>
 #include <stdio.h>
 #include <stdlib.h>
@@ -37,7 +37,7 @@ static void check(bool holds, const char *what, uint32_t order, uint32_t superbl
     exit(1);
 }
 
-/* Returns whether `place`, `fence` or `buffer` is untouched, except for the first `bytes` bytes of its inside. */
+/* Returns whether `fenced` (`place`, `fence` or `buffer`) is untouched, except for the first `bytes` bytes of its inside. */
 static bool is_kept_behind(const void *fenced, size_t bytes)
 {
     static uint8_t untouched[sizeof fence];
@@ -59,7 +59,7 @@ static partmem_status boot(partmem_machine *machine, uint32_t order, uint32_t su
     return partmem_boot(machine, &config);
 }
 
-/* Returns the six numbers of the reply to an event. Checks that the event writes no other byte. */
+/* Returns the six numbers of the reply to an event. Checks that the event writes only these and, for a read, the bytes read. */
 static const uint32_t *reply_to(partmem_machine *machine, uint32_t kind, uint32_t tenant, uint32_t first, uint32_t second)
 {
     const partmem_request request = {kind, tenant, first, second};
@@ -114,8 +114,8 @@ static void look_at(partmem_machine *machine, uint32_t order, uint32_t superbloc
     check(buffer.inside.bytes[0] == 0x3c && buffer.inside.bytes[63] == 0x3c, "bytes", order, superblocks, tenants);
 }
 
-/* Allocates the last superblock as a page block, and uses it in place up to its last byte. Events, which lend nothing, allocate
- * the superblocks before it. */
+/* Grants the rest of the superblocks. Events, which lend nothing, allocate all of these but the last as page blocks. Then a direct
+ * call allocates the last one, and its first and last byte are used in place. */
 static void use_in_place(partmem_machine *machine, uint32_t order, uint32_t superblocks, uint32_t tenants)
 {
     const partmem_tenant last = {machine, tenants - 1};

@@ -2,9 +2,9 @@
 
     worked_traces.py FOLDER [OTHERS]
 
-Writes each trace that runs on the small machine, with replies to all tenants, to FOLDER/NAME-NN, and its replies to
-FOLDER/NAME-NN.stdout. In the same way it writes to OTHERS the traces with the replies to only one tenant, and the traces that
-built_traces.rt builds, and their command lines to OTHERS/NAME-NN.words."""
+Writes each trace of the tables with the replies to all tenants to FOLDER/NAME-NN, and its replies to FOLDER/NAME-NN.stdout. These
+traces run on the machine SMALL. Writes the traces with the replies to only one tenant, and the traces that built_traces.rt
+builds, to OTHERS/other-NN, their replies to OTHERS/other-NN.stdout, and their command lines to OTHERS/other-NN.words."""
 import codecs
 import os
 import re

@@ -4,7 +4,7 @@
 #   awk -v seed=1 -v world=1 -v lines=1000000 -v order=3 -v superblocks=256 -v tenants=64 -v broken=10 -f tests/soak/traces.awk
 #
 # `lines` is the number of lines in the own list of tenant 0. On average `others` other lines (3 by default) come before each of
-# them. Of a hundred other lines, `broken` are no command, or a command with numbers that hardly anything has.
+# them. On average `broken` of a hundred other lines are no command, or a command with a number that is hardly ever in use.
 #
 # Tenant 0 never holds more than 4 superblocks, and the others together never more than all but 4, so that no grant to tenant 0 is
 # refused. The machine has to have more than 4.
@@ -74,13 +74,14 @@ function administer(t, most,    word) {
     return "admin takeback " t " " draw(held[t] + 1)
 }
 
-# Returns a number that hardly anything has: the end of a range, or one that would wrap to a small number. Some are no numbers.
+# Returns a number that is hardly ever in use: the end of a range, or one that would wrap to a small number. Or returns a word
+# that is no number.
 function far() {
     return pick("31 32 63 64 255 256 65535 65536 1048576 16777216 536870912 2147483647 2147483648 4294963200 4294967232 4294967295 " \
         "4294967296 9999999999 00000000000 18446744073709551616 -1 +1 0x1 1e3 x")
 }
 
-# Returns a line that is no command, or a command with numbers that hardly anything has.
+# Returns a line that is no command, or a command with a number that is hardly ever in use.
 function broken_line(    kind, text, n) {
     kind = draw(8)
     if (kind == 0) { n = draw(300); while (n-- > 0) text = text sprintf("%c", 11 + draw(245)); return (text ~ /^[ 0a]/ ? "~" : "") text }
