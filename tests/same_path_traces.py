@@ -1,8 +1,9 @@
 """Makes the traces of tests/same-path: a mixed one of several tenants, and for each tenant one with only its own list.
 
-A tenant's own list is its commands with the grants, take-backs and resets that the administrator did for it. Only the mixed trace
-has moves, `admin pool`, broken lines, refused grants and take-backs, and the commands of the other tenants. Each line depends on the library's replies to
-the lines before, so the traces use the frames and places that the library returns. The same seed makes the same traces.
+A tenant's own list is its commands, and the grants, take-backs and resets of this tenant that were not refused. Only the mixed
+trace has moves, `admin pool`, broken lines, refused grants and take-backs, and the commands of the other tenants. Each line
+depends on the library's replies to the lines before, so the traces use the frames and places that the library returns. The same
+seed makes the same traces.
 """
 import random
 
@@ -191,8 +192,9 @@ class Pair:
 class LongPair(Pair):
     """Like Pair, but each tenant has two caches of 200 slabs, so that the library keeps their lists in groups of slabs.
 
-    A slab has two objects, so each `take` and `give` moves a slab to another list, mostly into the middle of it. A tenant gives back one object of most slabs of a cache, slot by slot, then the other one, and then takes all of them again.
-    Most of its commands are not followed, to save time.
+    A slab has two objects, so each `take` and `give` moves a slab to another list, mostly into the middle of it. A tenant gives
+    back one object of most slabs of a cache, slot by slot, then the other one, and then takes all of them again. Most of its
+    commands are not followed, to save time.
     """
 
     # The first and the last cache of a tenant are used. The blocks are as large as a slot, and the slabs lie on both sides of

@@ -1,6 +1,6 @@
-/* Makes the mistake that the command line names. A tool has to report it at a line with the comment HERE. With "none" the program
- * makes no mistake, and without a name it prints all names. Loads and stores go through volatile pointers, so that no compiler
- * removes them. */
+/* Makes the mistake that the command line names. A tool has to report it. If the tool names a line, it has to be one with the
+ * comment HERE. With "none" the program makes no mistake, and without a name it prints all names. Most stores go through volatile
+ * pointers, so that no compiler removes them. */
 #include "partmem_watched.h"
 
 #include <stdio.h>
