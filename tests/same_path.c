@@ -12,8 +12,8 @@
  * hash of the results. The row of a step has the address of the instruction and the hash of the places.
  *
  * The processor traps after each instruction while its trap flag is set, and the handler of the signal SIGTRAP sees all
- * registers. So the program follows itself, which takes a fourth of the time of ptrace and needs no permission to trace. It turns
- * address randomisation off. Link the program statically, so that each instruction has the same address in every run.
+ * registers. So the program follows itself, which takes a fourth of the time of ptrace and needs no permission to trace. The
+ * program turns address randomisation off. Link it statically, so that each instruction has the same address in every run.
  *
  * The file "operands", if there is one in the working folder, has the memory operand of each instruction (as tests/same-path reads
  * them from a disassembly). A block that boot took has one part for each superblock if its size is a multiple of the number of

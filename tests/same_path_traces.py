@@ -1,7 +1,7 @@
 """Makes the traces of tests/same-path: a mixed one of several tenants, and for each tenant one with only its own list.
 
-A tenant's own list is its commands, and the grants, take-backs and resets of this tenant that were not refused. Only the mixed
-trace has moves, `admin pool`, broken lines, refused grants and take-backs, and the commands of the other tenants. Each line
+A tenant's own list is its commands, and the administrator's grants, take-backs and resets for it that are not refused. Only the
+mixed trace has moves, `admin pool`, broken lines, refused grants and take-backs, and the commands of the other tenants. Each line
 depends on the library's replies to the lines before, so the traces use the frames and places that the library returns. The same
 seed makes the same traces.
 """

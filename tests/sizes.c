@@ -114,8 +114,8 @@ static void look_at(partmem_machine *machine, uint32_t order, uint32_t superbloc
     check(buffer.inside.bytes[0] == 0x3c && buffer.inside.bytes[63] == 0x3c, "bytes", order, superblocks, tenants);
 }
 
-/* Grants the rest of the superblocks. Events, which lend nothing, allocate all of these but the last as page blocks. A direct call
- * allocates the last one, and its first and last byte are used in place. */
+/* Grants the rest of the superblocks. Events, which lend nothing, allocate all of these but the last as page blocks. A direct
+ * call allocates the last one, and its first and last byte are used in place. */
 static void use_in_place(partmem_machine *machine, uint32_t order, uint32_t superblocks, uint32_t tenants)
 {
     const partmem_tenant last = {machine, tenants - 1};
