@@ -7,7 +7,7 @@ COMMANDS = 'alloc free take give read write cache destroy reap report grant take
 # Direct calls for which there is no event.
 CALLS = 'lend lend_object lend_block find_object'.split()
 ROUNDS = 100
-# The C library has a memcpy and a memset for each kind of processor. With these settings it uses the same ones on all.
+# The C library has a memcpy and a memset for each kind of processor. With these settings it uses the same ones on each.
 TUNABLES = "glibc.cpu.hwcaps=-ERMS,-FSRM,-AVX,-AVX2,-AVX512F,-AVX512VL,-AVX_Fast_Unaligned_Load"
 LIBRARY = "C library"
 # Programs that use this header start callgrind themselves, just before the measured calls. Until then they run faster.
@@ -21,7 +21,8 @@ def own_library():
 
 
 def read_ceilings(path):
-    """Returns the C library that the numbers of a file were measured with, or None, and the value of each name in the file."""
+    """Returns the C library with which the numbers of a file were measured, or None if the file does not name one. Also returns
+    the value of each name in the file."""
     with open(path, encoding="utf-8") as lines:
         rows = [line.partition("#")[0].strip() for line in lines]
     split = {name: value.strip() for name, _, value in (row.partition(":") for row in rows if row)}
@@ -46,7 +47,7 @@ def callgrind(command, *options, out="/dev/null", tunables=TUNABLES, preload="")
 
 
 def of_calls(command, out, *options, toggle="measured", functions="measured", called=r".*", tunables=TUNABLES, preload=""):
-    """Returns the number of instructions that some functions take when others call them, including all that they call in turn.
+    """Returns the number of instructions of calls from some functions to others, including all that the called ones call in turn.
     `called` is a pattern for the names of the functions that are called, and `functions` one for the names of their callers. Only
     what runs inside the function `toggle` counts. callgrind gets `options`, and writes to the file `out`."""
     own = ["--compress-strings=no", "--compress-pos=no", f"--toggle-collect={toggle}"]
@@ -62,8 +63,8 @@ def of_calls(command, out, *options, toggle="measured", functions="measured", ca
 
 
 def of_command(program, how, command, folder, tunables=TUNABLES):
-    """Returns the average instructions of a command of bench/events.c, run as an event or as a direct call. Only the call of the
-    library that `measured` makes in each round is counted."""
+    """Returns the average instructions of a command of bench/events.c, run as an event or as a direct call. Only the call that
+    `measured` makes to the library in each round is counted."""
     run = [program, how, command, str(ROUNDS)]
     functions = "measured|run|event|call"
     return of_calls(run, f"{folder}/{how}-{command}", functions=functions, called=r"partmem_\w+", tunables=tunables) / ROUNDS

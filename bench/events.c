@@ -10,7 +10,7 @@
  * linked instead of the library, only the direct calls alloc, free, take, give, read, write, reap and lend work.
  *
  *     events new ORDER           the first write into each superblock, whose memory was never touched
- *     events again ORDER ROUNDS  the first write after a grant, into memory that was touched before
+ *     events again ORDER ROUNDS  the first write after a grant, into memory that earlier rounds have touched
  *
  * `new` and `again` print the average page faults and nanoseconds of such a write. The machine has 32 superblocks of order ORDER.
  */

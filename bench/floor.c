@@ -1,5 +1,5 @@
-/* The floor of the direct calls: those calls of partmem.h that the benchmark makes, written by hand in plain C. Nothing here is
- * proved.
+/* The floor of the direct calls: the direct calls of partmem.h that bench/library.c makes, written by hand in plain C. Nothing
+ * here is proved.
  *
  * It follows docs/frames-and-blocks.md and docs/slabs.md as the library does: it chooses the same blocks and objects, tests the
  * same numbers in the same order, and keeps the same records in the frames. So each call returns the same status, numbers and
@@ -15,7 +15,7 @@
  *
  * Free blocks, partial slabs and empty slabs are marked by bits, and the first one is found by reading three words. There are no
  * lists. Each tenant has its own tables, which are as large as the largest machine needs; a load touches only the parts that it
- * uses. Calls that no load makes are missing.
+ * uses. The other functions of partmem.h are missing.
  */
 #include <stdbool.h>
 #include <stdlib.h>
@@ -33,14 +33,14 @@ enum {
     MOST_FRAMES = PARTMEM_MOST_SUPERBLOCKS << PARTMEM_MOST_ORDER,
     MOST_GROUPS = MOST_FRAMES / GROUP,
     FRAME_BYTES = PARTMEM_FRAME_BYTES,
-    SMALL_BYTES = 512, /* smaller objects have their record in the frame */
+    SMALL_BYTES = 512, /* slabs with smaller chunks have their record in the frame */
     RECORD_BYTES = 32,
     MOST_SLAB_ORDER = 3
 };
 
 /* ---- What is kept -------------------------------------------------------------------------------------------------------- */
 
-/* The bits of 64 frames of a tenant. A free block or a slab has its bit at its first frame. */
+/* The bits of 64 frames of a tenant. A free block, a partial slab or an empty slab has its bit at its first frame. */
 struct group {
     uint64_t free[PARTMEM_MOST_ORDER + 1]; /* by order */
     uint64_t partial[PARTMEM_MOST_CACHES]; /* by cache */
@@ -260,7 +260,7 @@ static bool can_be_free(const struct tenant *tenant, uint32_t frame, uint32_t or
     return true;
 }
 
-/* Returns whether a block of this order would be free after all empty slabs are freed. Only blocks that share a frame with an
+/* Returns whether a block of this order would be free if all empty slabs were freed. Only blocks that share a frame with an
  * empty slab are tested. */
 APART bool has_block_after_reap(const struct machine *machine, const struct tenant *tenant, uint32_t order)
 {
@@ -452,7 +452,7 @@ partmem_status partmem_take(partmem_tenant who, uint32_t number, partmem_lent *o
     uint32_t index = 0;
     for (; *record == UINT64_MAX; record++) index += 64;
     index += lowest(~*record);
-    *record |= *record + 1; /* its lowest 0 */
+    *record |= *record + 1; /* sets the lowest 0 */
 
     const uint32_t offset = slab->colour + index * cache->chunk;
     *object = (partmem_lent){at + offset, frame * FRAME_BYTES + offset, cache->size};
@@ -665,7 +665,7 @@ partmem_status partmem_make_cache(partmem_tenant who, uint32_t size, uint32_t al
 
 /* ---- Missing functions --------------------------------------------------------------------------------------------------- */
 
-/* The programs of the benchmark contain calls of these functions too, so the linker needs them. If a program that is linked with
+/* The programs of the benchmark contain calls to these functions too, so the linker needs them. If a program that is linked with
  * the floor makes such a call, it aborts. */
 __attribute__((used)) static void is_missing(void) { abort(); }
 

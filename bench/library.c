@@ -1,18 +1,20 @@
-/* Runs the lines of a trace with the static library, or with malloc and free, and prints the average nanoseconds of a call.
+/* Runs the lines of a trace with the static library, or with malloc and free. Prints the number of calls, and the average
+ * nanoseconds of one.
  *
  *     library HOW ORDER SUPERBLOCKS TENANTS TRACE
  *     library answers ORDER SUPERBLOCKS TENANTS TRACE   writes what each direct call returns, a line each
- *     library --order=ORDER --superblocks=SUPERBLOCKS --tenants=TENANTS   writes the replies to lines, as `partmem` does
+ *     library --order=ORDER --superblocks=SUPERBLOCKS --tenants=TENANTS   writes the replies to the lines of standard input
  *
  * HOW is `event` (partmem_event), `line` (partmem_line), `call` (the direct calls) or `malloc`. The calls are made in turn on a
- * machine that was just booted. Their arguments are prepared before, and their results are not used. With `malloc` each page
- * block or object becomes a malloc of as many bytes, and lines that neither take nor give memory are left out. This measures the
- * allocator that is linked or preloaded. After a malloc, and after a direct call that takes memory, the first byte is stored.
+ * machine that was just booted. Their arguments are prepared before, and replies are not read. With `malloc` each page block or
+ * object becomes a malloc of as many bytes and a free, and lines that neither take nor give back memory are left out. This
+ * measures the allocator that is linked or preloaded. After a malloc, and after a direct call that takes memory, the first byte
+ * is stored.
  * With `call-used` and `malloc-used` all bytes of a block or an object are stored when it is taken, and loaded and checked before
  * it is given back.
  *
- * If bench/floor.c is linked instead of the library, `call`, `call-used` and `answers` work. `answers` has to write the same
- * lines with both.
+ * If bench/floor.c is linked instead of the library, `event`, `line` and the replies to standard input do not work. `answers` has
+ * to write the same lines with the library and with the floor.
  */
 #define _POSIX_C_SOURCE 200809L
 #include <inttypes.h>
@@ -136,7 +138,7 @@ struct results {
     uint32_t frames;
 };
 
-/* Makes the direct call of a line. It is always inlined, so that callgrind counts only the library's calls. */
+/* Makes the direct call of a line. It is always inlined, so that callgrind counts only the calls to the library. */
 __attribute__((always_inline)) static inline partmem_status run_direct(const struct call *call, struct results *results) {
     const partmem_tenant tenant = {&machine, call->request.tenant};
     uint32_t first = call->request.first, second = call->request.second;
@@ -154,7 +156,7 @@ __attribute__((always_inline)) static inline partmem_status run_direct(const str
     }
 }
 
-/* Returns the place that a call names, or the first place of what it took. */
+/* Returns the first place of what a call took, or the place that the call names. If it has no place, returns its first number. */
 static uint32_t place_of(const struct call *call, const struct results *results) {
     const partmem_request *request = &call->request;
     switch (request->kind) {
@@ -246,7 +248,7 @@ __attribute__((noinline)) static void run_calls(uint8_t **blocks, int is_used) {
     }
 }
 
-/* Returns how many calls of malloc and free there were. */
+/* Returns the number of calls to malloc and free. */
 __attribute__((noinline)) static size_t run_malloc(uint8_t **blocks, int is_used) {
     size_t count = 0;
     for (size_t i = 0; i < call_count; i++) {
@@ -280,8 +282,8 @@ static uint64_t sum(uint64_t before, const void *bytes, size_t count) {
     return before;
 }
 
-/* Makes more calls at a place, and adds to a hash what they return: lends, some of too many bytes; a free and a give that are
- * refused since nothing begins at place + 4; and, if the call itself was a free or a give, the same call again. */
+/* Makes more calls at a place, and adds to a hash what they return: lends, some of too many bytes; a free and a give at
+ * place + 4, where seldom anything begins; and, if the call itself gave memory back, the same call again. */
 static uint64_t sum_of_more(uint64_t before, const struct call *call, uint32_t place, uint32_t bytes) {
     const partmem_tenant tenant = {&machine, call->request.tenant};
     const struct { uint32_t place, bytes; } lends[] = {

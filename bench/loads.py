@@ -67,7 +67,8 @@ def pages(draw, tenants):
 
 
 def objects(draw, tenants):
-    """Takes and gives objects of all sizes. Each tenant has about half as many live objects as frames, so slabs come and go."""
+    """Takes and gives objects of all sizes, and reaps in one of 2,000 lines. Each tenant has about half as many live objects as
+    frames."""
     for tenant in draw.choices(tenants, k=BATCH):
         if draw.random() < .0005:
             yield tenant, f'{tenant.number} reap', None
@@ -78,8 +79,8 @@ def objects(draw, tenants):
 
 
 def scattered(draw, tenants):
-    """Takes objects of 256 to 1000 bytes until they use most frames, and gives back random ones, so each cache has hundreds of
-    partial slabs."""
+    """Takes objects of 256 to 1000 bytes until they use most frames, and gives back random ones, which leaves each of the three
+    caches many partial slabs."""
     for tenant in draw.choices(tenants, k=BATCH):
         if draw.random() < (.9 if len(tenant.objects) < tenant.frames * 5 else .5) or not tenant.objects:
             yield take(tenant, draw.choice((4, 5, 6)))
@@ -88,7 +89,8 @@ def scattered(draw, tenants):
 
 
 def transfers(draw, tenants):
-    """Reads or writes 1 to 64 bytes in live objects and blocks. Two of three reads and writes are of 1 byte or of 64."""
+    """Reads or writes 1 to 64 bytes in live objects and blocks. Two of three reads and writes are of 1 byte or of 64,
+    or of the whole object if that has fewer bytes."""
     for tenant in draw.choices(tenants, k=BATCH):
         if len(tenant.objects) < 20:
             yield take(tenant, draw.randrange(len(SIZES)))
@@ -131,7 +133,7 @@ def faulty(draw, tenants):
 
 
 def administered(draw, tenants):
-    """Moves a slot of a tenant in every eighth line. The other lines are those of `pages`."""
+    """Puts behind every seventh line of `pages` a line that moves a slot of a tenant."""
     holders = [tenant for tenant in tenants if tenant.slots]
     for at, line in enumerate(pages(draw, tenants)):
         yield line
@@ -149,7 +151,8 @@ LOADS = {'pages': pages, 'objects': objects, 'scattered': scattered, 'transfers'
          'administered': administered}
 # bench/run --library leaves out these loads: malloc and free have nothing like their faulty lines and moves.
 LINES_ALONE = ('faulty', 'administered')
-# bench/run --library runs these loads a second time, and then stores and loads all bytes of their blocks and objects.
+# bench/run --library measures these loads a second time, in which all bytes of a block or an object are stored when it is taken,
+# and loaded before it is given back.
 USED = ('pages', 'objects')
 
 

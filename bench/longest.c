@@ -1,4 +1,4 @@
-/* Measures one of the longest calls, of a tenant that holds a whole machine, for bench/run --longest.
+/* Measures one of the longest calls on a machine that one tenant holds as a whole, for bench/run --longest.
  *
  *     longest CALL ORDER SUPERBLOCKS ROUNDS
  *     longest                                 prints the names of the calls

@@ -33,7 +33,8 @@ class Standing:
 
 
 def no_room_around_slabs(standing, order, superblocks):
-    """Requests a block of the greatest order. Each superblock has an empty slab of every cache, free frames and a taken frame."""
+    """Requests a block of the greatest order. Each superblock has a taken frame, an empty slab of each cache as far as these fit,
+    and otherwise free frames."""
     frames = 1 << order
     some = min(CACHES, frames - 1)
     standing.run(grants(superblocks) + [cache(4096)] * CACHES)
@@ -46,7 +47,7 @@ def no_room_around_slabs(standing, order, superblocks):
 
 
 def no_frame(standing, order, superblocks):
-    """Requests a frame. All frames are taken, and no slab is empty."""
+    """Requests a frame. Page blocks take all frames, and there are no slabs."""
     standing.run(grants(superblocks) + [f'0 alloc {order}'] * superblocks)
     return ['0 alloc 0']
 
@@ -76,7 +77,7 @@ def large_block(standing, order, superblocks):
 
 
 def small_object(standing, order, superblocks):
-    """Reads a byte of an object of 24 bytes."""
+    """Reads the first byte of each of eight objects of 24 bytes."""
     standing.run(grants(superblocks) + [cache(24)] + ['0 take 0'] * 160)
     return [f'0 read {24 * at} 1' for at in range(8)]
 

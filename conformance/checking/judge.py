@@ -48,7 +48,7 @@ def line_of_reply(run, tenant, number):
 
 class Judge:
     """Tests runs. If the program fails in a run, the failure is the finding, and the promises are not tested. The exception is a
-    program that prints too much: a promise that it breaks before is the finding."""
+    program that prints too much: if it breaks a promise before that, this promise is the finding."""
 
     def __init__(self, options, programs):
         self.programs, self.exact = programs, options.exact
@@ -62,9 +62,10 @@ class Judge:
         return finding and Case(run, finding)
 
     def broken_before(self, run):
-        """If the program prints too much, returns a promise other than Form that it breaks before, if there is one. For example,
-        each report has a row too many, which is read as part of the next reply. Only a long load then ends with too many bytes,
-        but few lines show the broken promise. A program that prints junk breaks Form, and the failure says more about that."""
+        """If the program prints too much, returns a promise other than Form that it breaks before that, if there is one. Suppose
+        that each report has a row too many, which is read as part of the next reply. Then only a long load ends with too many
+        bytes, but few lines are enough to show the broken promise. A program that prints junk breaks Form, and the failure says
+        more about that."""
         if run.failure is None or run.failure.kind != BABBLES:
             return None
         breach = self.broken_promise(run)

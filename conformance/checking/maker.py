@@ -1,4 +1,4 @@
-"""Makes lines. Most of them have numbers that name something; the others have a wrong number, often one at an edge."""
+"""Makes lines. Most numbers in them name something that exists. The others are wrong, and often at an edge."""
 import functools
 from typing import NamedTuple, Optional
 
@@ -155,8 +155,8 @@ class Maker:
         return self.one([world.sizes.order, world.sizes.order + 1]) if chance < 0.98 else self.one(WRONG_ORDERS)
 
     def drawn_in(self, bag, phase, places):
-        """Returns a number from the bag. If the phase has a slot and the bag has a number in it, the number is in this slot. Each
-        slot has `places` numbers."""
+        """Returns a number from the bag: one in the slot of the phase, if the phase has a slot and the bag a number in that slot.
+        Each slot has `places` numbers."""
         inside = [key for key in bag.keys if key // places == phase.slot] if phase.slot is not None else []
         return self.one(inside) if inside else bag.draw(self.rng)
 
@@ -199,7 +199,7 @@ class Maker:
         return size, alignment, rng.randbytes(self.one([1, 1, 2, 3, 7, 16])).hex()
 
     def range(self, world, tenant):
-        """Returns a place and a number of bytes for a read or write, mostly at the edges of a live block or object."""
+        """Returns a place and a number of bytes for a read or write, often at the edges of a live block or object."""
         chance = self.rng.random()
         if chance < 0.15 and tenant.written:
             return self.one(tenant.written)

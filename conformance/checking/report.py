@@ -71,8 +71,8 @@ def last_words(errors):
 
 
 def said_of(finding, whole):
-    """Returns the finding as lines of text. If the program hangs, they also say how it failed in the whole load, in which it may
-    have had more time for a reply. `whole` is the finding in the whole load."""
+    """Returns the finding as lines of text. If the program hangs or does not exit, they also say how it failed in the whole load,
+    in which it may have had more time for a reply. `whole` is the finding in the whole load."""
     if isinstance(finding, Breach):
         return [f'{finding.kind}: ' + (f'tenant {finding.tenant}: ' if finding.tenant is not None else '') + shown(finding.words)]
     again = f'; in the whole load {whole.words}' if finding.kind in ('hangs', 'stays') and finding != whole else ''

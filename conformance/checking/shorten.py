@@ -63,7 +63,7 @@ class Shortener:
             self.without_idle_lines()
             return
         if self.case.finding.line:
-            # partcheck does not judge the lines after that line.
+            # The lines after the one that shows the finding are not needed.
             self.is_kept(range(self.case.finding.line))
         self.from_the_end()
 

@@ -42,7 +42,7 @@ def is_number(word):
 
 
 def number_in(word):
-    """Returns the number that a word spells. A program may answer anything, so another word raises ValueError."""
+    """Returns the number that a word spells. Raises ValueError if it spells none, since a program may answer anything."""
     if not is_number(word):
         raise ValueError
     return int(word)
