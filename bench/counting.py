@@ -47,7 +47,7 @@ def callgrind(command, *options, out="/dev/null", tunables=TUNABLES, preload="")
 
 
 def of_calls(command, out, *options, toggle="measured", functions="measured", called=r".*", tunables=TUNABLES, preload=""):
-    """Returns the number of instructions of calls from some functions to others, including all that the called ones call in turn.
+    """Returns the instructions of the calls from some functions to others, with all that the called functions call in turn.
     `called` is a pattern for the names of the functions that are called, and `functions` one for the names of their callers. Only
     what runs inside the function `toggle` counts. callgrind gets `options`, and writes to the file `out`."""
     own = ["--compress-strings=no", "--compress-pos=no", f"--toggle-collect={toggle}"]

@@ -79,7 +79,7 @@ def objects(draw, tenants):
 
 
 def scattered(draw, tenants):
-    """Takes objects of 256 to 1000 bytes until they use most frames, and gives back random ones, which leaves each of the three
+    """Takes objects of 256 to 1000 bytes until they use most frames, and gives back random ones. This leaves each of the three
     caches many partial slabs."""
     for tenant in draw.choices(tenants, k=BATCH):
         if draw.random() < (.9 if len(tenant.objects) < tenant.frames * 5 else .5) or not tenant.objects:

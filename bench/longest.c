@@ -1,4 +1,5 @@
-/* Measures one of the longest calls on a machine that one tenant holds as a whole, for bench/run --longest.
+/* Measures one of the longest calls, for bench/run --longest. Before each call except boot, one tenant holds all superblocks of
+ * the machine, or all but one.
  *
  *     longest CALL ORDER SUPERBLOCKS ROUNDS
  *     longest                                 prints the names of the calls

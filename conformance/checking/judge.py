@@ -48,7 +48,7 @@ def line_of_reply(run, tenant, number):
 
 class Judge:
     """Tests runs. If the program fails in a run, the failure is the finding, and the promises are not tested. The exception is a
-    program that prints too much: if it breaks a promise before that, this promise is the finding."""
+    program that prints too much: if it breaks a promise other than Form before that, this promise is the finding."""
 
     def __init__(self, options, programs):
         self.programs, self.exact = programs, options.exact

@@ -17,8 +17,8 @@ COMMANDS = {'frame': 'alloc', 'object': 'take', 'cache': 'cache'}
 
 
 def given(run, kind):
-    """Finds the lines of tenants with a reply that gave a name of this kind. Yields for each its number, its words, and the words
-    of the reply."""
+    """Finds the lines of tenants with a reply that gave a name of this kind. Yields the number of each line, its words, and
+    the words of its reply."""
     for at, (line, replies) in enumerate(run.exchanges):
         words, told = line.split(), told_in(replies)
         if gives(kind, words, told):
