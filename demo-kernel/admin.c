@@ -4,8 +4,8 @@
 
 /* What the words NAME=VALUE of the boot line say. */
 static bool is_noisy;
-static unsigned ticks_between; /* how many ticks pass at least between two acts */
-static unsigned most_ticks;    /* if partition 0 runs for more ticks, the world ends as starved */
+static unsigned ticks_between; /* the least number of ticks from one act to the next */
+static unsigned most_ticks;    /* if partition 0 has not ended after this many ticks, the world ends as starved */
 static uint64_t state;         /* of the pseudo-random numbers */
 unsigned ticks_per_second, ticks_a_turn;
 

@@ -8,7 +8,7 @@ enum {
     CALL_FREE,    /* frame: unmaps and frees the page block that begins there */
     CALL_MAKE,    /* makes an endpoint. Returns its place, by which other calls name it */
     CALL_SEND,    /* endpoint, word: sends the word to the thread that waits there, or else to the endpoint's queue of 7 words */
-    CALL_RECEIVE, /* endpoint: returns its next word. Without one, waits if another thread of the partition can run */
+    CALL_RECEIVE, /* endpoint: returns its next word. If it has none, waits, or is refused if no other thread can run */
     CALL_DROP,    /* endpoint: drops it if no thread waits there */
     CALL_START,   /* address, stack, argument: starts a thread, which runs when this one waits or ends. Returns its number */
     CALL_CATCH,   /* address: after a fault, this thread continues there. Without such an address a fault ends the thread */

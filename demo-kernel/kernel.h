@@ -69,7 +69,7 @@ static inline uint64_t stamp(void)
 }
 
 /* text.c: what the kernel prints, and memory functions for the compiler and the library */
-extern uint64_t printing; /* the time stamps spent in print and print_bytes since it was set to 0 */
+extern uint64_t printing; /* by how much the time stamp grew in print and print_bytes since this was set to 0 */
 __attribute__((format(printf, 1, 2))) void print(const char *format, ...); /* %s, %u and %lu */
 void print_bytes(const void *from, size_t bytes);
 void flush(void);
@@ -87,7 +87,7 @@ void enter_space(unsigned t);
 const char *program_text(uint64_t address);
 uint64_t stack_used(void);
 
-/* memory.c: the calls of partmem, each logged as the line of a trace and its reply */
+/* memory.c: the calls to partmem. Each request is printed as a line of a trace, with its reply */
 extern enum planted planted;
 void set_up_memory(void);
 void end_memory(void);

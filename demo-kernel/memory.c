@@ -1,9 +1,10 @@
-/* The calls of partmem. Each is printed as the line of a trace, with its reply in the form of the program `partmem`, so that
- * partmem can be run on the whole output. */
+/* The calls to partmem. Each request, such as an allocation or a grant, is printed as a line of a trace, with its reply in the
+ * form of the program `partmem`. So demo-kernel/run can have `partmem` run the requests again, and compare the replies. Lookups
+ * and lends are not printed. */
 #include "kernel.h"
 
 enum planted planted;
-static partmem_machine machine; /* all zeroes; only the library uses it (duty 1) */
+static partmem_machine machine; /* all zeroes until the boot; only the library uses it (duty 1) */
 static uint8_t tables[PARTMEM_TABLE_BYTES(ORDER, SUPERBLOCKS, TENANTS)] __attribute__((aligned(16)));
 
 static partmem_tenant tenant_of(unsigned t) { return (partmem_tenant){&machine, t}; }
@@ -256,7 +257,7 @@ unsigned slots_of(unsigned t)
     return slots;
 }
 
-/* Returns how many bytes of a superblock are not 0. It need not have an owner. */
+/* Returns how many bytes of a superblock are not 0. The superblock need not have an owner. */
 uint64_t bytes_not_zero(uint32_t superblock)
 {
     const uint8_t *at = partmem_superblock_address(&machine, superblock);

@@ -15,8 +15,8 @@ struct endpoint {
 
 enum { THREAD_CACHE, ENDPOINT_CACHE, MOST_COUNTS = 1024 };
 
-/* What the kernel keeps of a thread. When it saves registers depends on other partitions, so it saves them here, and not in the
- * thread's object. */
+/* What the kernel keeps of a thread. The kernel saves registers at times that depend on other partitions, so it saves them here,
+ * and not in the thread's object. */
 struct context {
     struct registers registers;
     uint8_t vectors[512] __attribute__((aligned(16))); /* the x87 and SSE state */
@@ -33,7 +33,8 @@ static struct {
 static unsigned current;
 uint64_t ticks;
 
-/* For each system call of partition 0: the instructions of all of it, and those without printing. */
+/* For each of the first MOST_COUNTS system calls of partition 0: the instructions of the whole call, and of the call without its
+ * printing. */
 static struct {
     const char *name;
     uint64_t all, quiet;

@@ -28,7 +28,7 @@ uint64_t store_byte(uint64_t address);
 uint64_t run_at(uint64_t address);
 uint64_t read_time(uint64_t unused);
 uint64_t read_port(uint64_t unused);
-extern const char in_vain[], new_thread[]; /* new_thread jumps to serve, and passes the OR of its other registers */
+extern const char in_vain[], new_thread[]; /* new_thread jumps to serve, and passes the OR of all registers but rdi and rsp */
 __asm__(".text\n"
         ".globl load_byte, store_byte, run_at, read_time, read_port, in_vain, new_thread\n"
         "load_byte: movzbl (%rdi), %eax\n ret\n"
@@ -64,7 +64,7 @@ static uint64_t words_not_zero(uint64_t frame, uint64_t frames)
 
 /* ---- Registers that another partition could change ----------------------------------------------------------------------- */
 
-/* The x87 and SSE state, as fxsave stores it. Word 3 has MXCSR, every second word from 4 on has the bits of an x87 register, and
+/* The x87 and SSE state, as fxsave stores it. Word 3 has MXCSR, words 4, 6 .. 18 have the low bits of the x87 registers, and
  * words 20 to 51 are the vector registers. */
 struct vectors {
     uint64_t words[64];
@@ -115,7 +115,7 @@ static uint64_t wrong_selectors(uint64_t seed)
     return (ds != selector(seed, 0)) + (es != selector(seed, 1)) + (fs != selector(seed, 2)) + (gs != selector(seed, 3));
 }
 
-/* The flags that other instructions do not change: nested task, alignment check and identification. */
+/* The flags that no instruction of these programs changes except popfq: nested task, alignment check and identification. */
 enum { FLAGS = 1 << 14 | 1 << 18 | 1 << 21 };
 
 static void load_flags(uint64_t flags)

@@ -1,4 +1,4 @@
-/* The sizes of the machine, unless the compiler's command line has others, as `demo-kernel/run --figures` gives them. */
+/* The sizes of the machine. The compiler's command line can have others: `demo-kernel/run --figures` compiles with several. */
 #ifndef SIZES_H
 #define SIZES_H
 

@@ -90,8 +90,8 @@ void *memmove(void *to, const void *from, size_t bytes)
     return to;
 }
 
-/* An unproved library calls this function if one of its checks fails. It also calls it for its notice when a program starts, but
- * a kernel does not run that code. */
+/* An unproved library calls this function if one of its checks fails. It also has a constructor that prints a warning by this
+ * function, but this kernel does not run constructors. */
 long write(int file, const void *text, size_t bytes);
 long write(int file, const void *text, size_t bytes)
 {

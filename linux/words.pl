@@ -1,5 +1,5 @@
-# In each of 20 rounds adds words to a hash, joins them to a long string, splits it, prints sums, and deletes 100 words. Then
-# prints the hash. No address is printed.
+# In each of 20 rounds adds words to a hash, joins all words of the hash to a long string, splits the string into characters,
+# prints counts and a sum of the characters, and deletes 100 words. Then prints the hash. No address is printed.
 my %seen;
 my $state = 7;
 sub word {

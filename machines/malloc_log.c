@@ -17,7 +17,7 @@
 
    If MALLOC_LOG_CALLERS is set and not empty, a malloc line ends in " FILE+OFFSET", the address to which its call returns: FILE
    is the number of a loaded file, in decimal, and OFFSET is the offset from where it is loaded, in hex digits. The line
-   "# file FILE is PATH" comes before the first line with that file. That needs glibc 2.35.
+   "# file FILE is PATH" comes before the first line with that file. Callers are logged only with glibc 2.35 or newer.
 
    If a log cannot be written, the library says so on standard error, and the program runs on without a log. */
 #define _GNU_SOURCE
@@ -201,8 +201,8 @@ static int file_of(uintptr_t load, const char *loaded)
     return file_count++;
 }
 
-/* Writes " FILE+OFFSET" for a caller. Returns the number of characters: 0 if callers are not logged, or if the caller's file has
-   no number. This function takes no lock of the loader, since another thread may hold that lock and wait for `lock`. */
+/* Writes " FILE+OFFSET" for a caller. Returns the number of characters: 0 if callers are not logged, or if the caller is in no
+   file with a number. This function takes no lock of the loader, since another thread may hold that lock and wait for `lock`. */
 static int write_caller(char *to, size_t size, void *caller)
 {
 #if __GLIBC_PREREQ(2, 35)
@@ -344,7 +344,7 @@ static void *resize(void *old, size_t bytes, void *caller)
     return log_malloc(at, bytes, caller);
 }
 
-/* Logs the size of aligned memory rounded up to a multiple of the alignment. */
+/* Allocates aligned memory. Logs its size rounded up to a multiple of the alignment. */
 static void *align(size_t alignment, size_t bytes, void *caller)
 {
     void *at = __libc_memalign(alignment, bytes);

@@ -2,8 +2,8 @@
 import tenants
 from summary import FRAME
 
-WIDTH = 1200        # how wide all columns are together
-MOST_TICKS = 10     # numbers on an axis
+WIDTH = 1200        # how wide all columns are together, in pixels
+MOST_TICKS = 10     # how many steps an axis has at most; it has a number at each end of a step
 PARTS = 100         # places on an axis of time are rounded to 1/PARTS pixel
 
 

@@ -1,5 +1,6 @@
 """The summary that from-kmem and from-malloc print for each tenant on standard error. It says what the tenant used, then what it
-requested, and then, by docs/capacity.md, how many superblocks are enough for any load with as many blocks and objects."""
+requested, and then, by docs/capacity.md, how many superblocks are enough for any load that never has more blocks and
+objects at a time."""
 import collections
 import sys
 

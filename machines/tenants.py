@@ -46,8 +46,8 @@ def arguments(description):
 
 
 def checked(given):
-    """Returns the arguments. Fails if no machine has these sizes or as many tenants, or if there is no partmem. With --largest,
-    replaces the logs by the largest ones."""
+    """Returns the arguments. Fails if no machine has these sizes or one tenant for each log, or if there is no partmem. With
+    --largest, replaces the logs by the largest ones."""
     if given.order not in ORDERS:
         fail(f'--order {given.order}: the order of a superblock is {ORDERS[0]} to {ORDERS[-1]}', 2)
     if not 1 <= given.superblocks <= MOST_SUPERBLOCKS:
