@@ -17,7 +17,7 @@ static void set_gate(unsigned vector, const char *stub, uint8_t stack, uint8_t k
     gates[vector] = (struct gate){(uint16_t)at, 0x08, stack, kind, (uint16_t)(at >> 16), (uint32_t)(at >> 32), 0};
 }
 
-/* Sets up gates that turn interrupts off, so one call of the library runs at a time in the kernel (duty 8). NMI, double fault and
+/* Sets up gates that turn interrupts off, so one call to the library runs at a time in the kernel (duty 8). NMI, double fault and
  * machine check can still interrupt the kernel. They have their own stack, since libpartmem.a uses the 128 bytes below its
  * stack pointer (duty 9). */
 static void set_up_gates(void)

@@ -1,6 +1,6 @@
 /* The calls to partmem. Each request, such as an allocation or a grant, is printed as a line of a trace, with its reply in the
- * form of the program `partmem`. So demo-kernel/run can have `partmem` run the requests again, and compare the replies. Lookups
- * and lends are not printed. */
+ * form of the program `partmem`. So demo-kernel/run can have `partmem` run the requests again, and compare the replies. Lookups,
+ * lends, the boot and the end are not printed. */
 #include "kernel.h"
 
 enum planted planted;

@@ -1,5 +1,5 @@
-/* Page tables. The first GiB, with the kernel and all RAM, is mapped in all address spaces, for the kernel only. For user mode, a
- * tenant's page blocks are mapped only in the tenant's own address space. */
+/* Page tables. The first GiB has the kernel and the RAM of partitions. It is mapped in all address spaces, for the kernel only.
+ * For user mode, a tenant's page blocks are mapped only in the tenant's own address space. */
 #include "kernel.h"
 
 enum { PRESENT = 1, WRITABLE = 2, USER = 4, TABLES = (FRAMES + 511) / 512 };

@@ -62,7 +62,7 @@ static const struct thread *thread_of(unsigned t, const struct context *context)
     return thread;
 }
 
-/* ---- Duty 9: a user's vector registers, before the first call of the library and after the last -------------------------- */
+/* ---- Duty 9: a user's vector registers, before the first call to the library and after the last -------------------------- */
 
 static void save_vectors(struct context *context)
 {

@@ -3,8 +3,8 @@
 
 #include "kernel.h"
 
-/* Printed text waits here until flush sends it to QEMU by port 0xe9. So a system call that prints the same text always takes the
- * same number of instructions. */
+/* Printed text waits here until flush sends it to QEMU by port 0xe9. So printing the same text always takes the same number of
+ * instructions. */
 static char waiting[1 << 16];
 static size_t length;
 uint64_t printing;

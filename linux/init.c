@@ -1,7 +1,7 @@
 /* /init of the virtual machine that linux/run boots. In quiet and noisy worlds partition 0 does the same, and prints the results
- * of its calls and what it finds; linux/run compares these lines. In a noisy world partition 1 meanwhile calls and stores at
- * random, slots of both are moved, and partition 1 is reset. Perl runs in a world of its own, with its heap in a partition whose
- * slots are moved. The output goes to port 0xe9. */
+ * of its calls and what it finds; linux/run compares these lines. In a noisy world partition 1 meanwhile allocates, frees and
+ * stores at random, slots of both are moved, and partition 1 is reset. Perl runs in a world of its own, with its heap in a
+ * partition whose slots are moved. The output goes to port 0xe9. */
 #define _GNU_SOURCE
 #include <errno.h>
 #include <fcntl.h>

@@ -138,7 +138,7 @@ static long device_ioctl(struct file *file, unsigned int kind, unsigned long at)
 	return !status && copy_to_user((void __user *)at, &call, sizeof(call)) ? -EFAULT : status;
 }
 
-/* ---- Mappings have only frame numbers, so direct I/O or ptrace gets no reference to a page that could outlast a mapping ---- */
+/* ---- Mappings have only frame numbers, so nobody (direct I/O, ptrace) can keep using a page after it is unmapped ----------- */
 
 static u8 *address_of(u32 partition, u32 place)
 {

@@ -3,7 +3,7 @@ import tenants
 from summary import FRAME
 
 WIDTH = 1200        # how wide all columns are together, in pixels
-MOST_TICKS = 10     # how many steps an axis has at most; it has a number at each end of a step
+MOST_TICKS = 10     # the most steps from one number to the next on an axis
 PARTS = 100         # places on an axis of time are rounded to 1/PARTS pixel
 
 
