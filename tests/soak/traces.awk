@@ -38,7 +38,7 @@ function size(c) {
 
 # Returns a place at which an object of the cache may begin.
 function object(t, c,    chunk, count) {
-    chunk = size(c) < 16 ? 16 : size(c)
+    chunk = size(c) < 16 ? 16 : 8 * int((size(c) + 7) / 8)
     count = chunk < 512 ? int(4064 / chunk) : int(4096 / chunk)
     return 4096 * int(frame(t, 0) / (1 + draw(4))) + chunk * draw(1 + draw(count > 12 ? 12 : count))
 }
