@@ -1,5 +1,5 @@
-"""Lines of every kind, with the reply to each, which was worked out by hand. Before each line, the lines of BEFORE give tenant 0
-all frames of its superblock in one block. The machine has two tenants and two superblocks of eight frames."""
+"""Faulty, refused and accepted lines, with the reply to each, which was worked out by hand. Before each line, the lines of BEFORE
+give tenant 0 all frames of its superblock in one block. The machine has two tenants and two superblocks of eight frames."""
 
 BEFORE = b"admin grant 0\n0 alloc 3\n"
 REPLIES_BEFORE = b"admin> granted 0 slot 0 superblock 0\n0> frame 0\n"
@@ -29,13 +29,14 @@ LINES = {
     "!> refused 12 NoTenant": "2 alloc 0|256 alloc 0|65536 reap|4294967295 report|4294967295 read 0 0|2 cache 0 0 00",
     "admin> refused 12 NoTenant": "admin grant 2|admin grant 256|admin grant 4294967295|admin reset 256|admin reset 4294967295"
     "|admin takeback 2 0|admin takeback 4294967295 4294967295|admin move 256 0|admin move 4294967295 9",
-    # Slots that the tenant does not hold, even if their lower bits are the number of a slot that it holds.
+    # Numbers of slots that the tenant does not hold, even if their lower bits are the number of a slot that it holds.
     "admin> refused 14 NoSlot": "admin takeback 0 1|admin takeback 0 256|admin takeback 0 65536|admin takeback 0 4294967295"
     "|admin takeback 1 0|admin move 0 1|admin move 0 65536|admin move 1 0|admin move 0 4294967295",
     # Orders above the order of a superblock, even if a shift by them would wrap.
     "0> refused 2 BadOrder": "0 alloc 4|0 alloc 32|0 alloc 64|0 alloc 256|0 alloc 4294967295|\t0\talloc\t4\t|00 alloc 0000000004",
     # Every frame is taken.
     "0> refused 1 NoFrames": "0 alloc 0|0 alloc 3|0000000000 alloc 0000000000| 0  alloc \t 1|" + "0 alloc 0".ljust(255),
+    # A line of more than 255 bytes.
     "!> fault Long": "0 alloc 0".ljust(256),
     # Frames at which no block begins, even if their places would wrap to the place of the block.
     "0> refused 3 NotABlock": "0 free 1|0 free 7|0 free 8|0 free 65536|0 free 1048576|0 free 536870912|0 free 2147483648"

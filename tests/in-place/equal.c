@@ -1,5 +1,5 @@
-/* Makes random calls, stores and loads. Writes each as a line of a trace, and its result as reply lines, for a comparison with
- * the program `partmem`. A store in place becomes write lines, and a load in place becomes read lines.
+/* Makes random calls, stores and loads. Writes a call as a line of a trace, a store in place as write lines, and a load in place
+ * as read lines. Writes their results as reply lines, for a comparison with the program `partmem`.
  *
  *     equal ORDER SUPERBLOCKS TENANTS CALLS SEED TRACE REPLIES
  */
@@ -15,7 +15,7 @@ static uint32_t kept[MOST_KEPT], kept_count; /* places of blocks and objects, ke
 static FILE *trace, *replies;
 static unsigned done, refused, in_place;
 
-/* The number of the tenant that makes this call, and a cache and a place that the tenant may have. */
+/* The numbers of a tenant and of a cache, and a place, chosen at random for the next call. They need not be valid. */
 static uint32_t t, cache, place;
 static partmem_tenant me;
 
@@ -277,7 +277,7 @@ static void pool(void)
     }
 }
 
-/* Run a line or an event between the calls. */
+/* Make a request with partmem_line, and another with partmem_event. */
 static void run_line(void)
 {
     static char buffer[PARTMEM_MOST_TEXT_BYTES];

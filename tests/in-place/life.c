@@ -14,7 +14,7 @@ struct range {
     partmem_lent lent;
     bool is_live, is_object;
     uint32_t cache;
-    uint8_t stamp; /* its bytes depend on this */
+    uint8_t stamp; /* the bytes of the range depend on this */
 };
 
 static partmem_machine machine;
@@ -38,7 +38,7 @@ static bool is_filled(const struct range *range, uint32_t step)
     return true;
 }
 
-/* Returns whether an object is lent as itself, and not as another object or as a page block. */
+/* Returns whether an object is lent by its cache and place, and not for another cache, for a place in it, or as a page block. */
 static bool is_lent_as_object(partmem_tenant me, const struct range *range)
 {
     partmem_lent lent;
@@ -48,7 +48,7 @@ static bool is_lent_as_object(partmem_tenant me, const struct range *range)
            partmem_lend_block(me, place, &lent) == PARTMEM_OUT_OF_REACH && !lent.at;
 }
 
-/* Returns whether a page block is lent whole for any place in it, and not as an object. */
+/* Returns whether a page block is lent whole for a random place in it, and not as an object. */
 static bool is_lent_as_block(partmem_tenant me, const struct range *range)
 {
     partmem_lent lent;
@@ -59,7 +59,7 @@ static bool is_lent_as_block(partmem_tenant me, const struct range *range)
            found.place == lent.place && found.bytes == lent.bytes && !partmem_object_at(me, 0, lent.place);
 }
 
-/* Returns whether partmem_find_object finds the object or page block at this place in it. */
+/* Returns whether partmem_find_object finds this object or page block for a place in it. */
 static bool is_found(partmem_tenant me, const struct range *range, uint32_t place)
 {
     partmem_object found;

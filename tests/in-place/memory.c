@@ -1,7 +1,8 @@
 /* Checks the memory of a machine that partmem_boot_in boots. For a grid of sizes, boot may write at most PARTMEM_TABLE_BYTES of
- * the tables and nothing of the RAM, and superblock m has to lie at ram + m * unit. Then the test runs for each order, in memory
- * full of zeroes and in memory full of another byte, with the same results. Blocks and objects have to lie in their superblocks,
- * partmem_find_place has to return their places, and superblocks that were never granted may not change. */
+ * the tables and nothing of the RAM, and superblock m has to lie m superblocks behind the beginning of the RAM. Then, for each
+ * order, a machine in memory full of zeroes has to lend the same places and bytes as one in memory full of another byte. Blocks
+ * and objects have to lie in their superblocks, partmem_find_place has to return their places, and superblocks that were never
+ * granted may not change. */
 #include <sys/mman.h>
 
 #include "trial.h"
@@ -66,8 +67,8 @@ static void try_sizes(void)
     printf("%u sizes: the tables are %.4f to %.3f times what boot writes, %.4f in the mean\n", count, least, most, sum / count);
 }
 
-/* Checks that what is lent lies in its superblock, and that the places of its first and last byte are found, but not for another
- * tenant. Adds it to the hash, and overwrites it. */
+/* Checks that lent memory lies in its superblock, that partmem_find_place returns the places of its first and last byte, and that
+ * it refuses the first byte for another tenant. Adds the memory to the hash, and overwrites it. */
 static void check(const partmem_lent *lent)
 {
     uint8_t *at = lent->at;
@@ -90,7 +91,7 @@ static void grant_half(void)
     for (uint32_t m = 0; m < sizes.superblocks / 2; m++) MUST(partmem_grant(me, &slot) == PARTMEM_DONE && slot.superblock == m);
 }
 
-/* Allocates page blocks of an order until there is none. Each begins on a page, and at a multiple of its size in the RAM. */
+/* Allocates page blocks of an order until none is free. Each has to begin at a page, and at a multiple of its size in the RAM. */
 static void try_blocks(uint32_t order)
 {
     partmem_lent block;
@@ -103,7 +104,8 @@ static void try_blocks(uint32_t order)
     MUST(count == sizes.superblocks / 2 << (sizes.order - order));
 }
 
-/* Makes a cache, first resetting the tenant if `is_reset`, and takes some objects. Each begins at a multiple of the alignment. */
+/* Makes a cache, and takes some objects. Each has to begin at a multiple of the alignment. If `is_reset`, the tenant is first
+ * reset, and gets half of the superblocks. */
 static void try_objects(uint32_t size, uint32_t align, bool is_reset)
 {
     partmem_cache cache;

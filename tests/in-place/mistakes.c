@@ -1,6 +1,6 @@
 /* Tests mistakes of a caller that do not break memory. Each call has to return the first status that applies, and to set its
- * results to zeroes. Only a read leaves its buffer unchanged. Then tests calls whose lengths are far larger than their buffers,
- * and the functions that are written in C. */
+ * results to zeroes. Only a read leaves its buffer unchanged, and an event its reply. Also tests calls whose lengths are larger
+ * than their buffers, and three functions that are written in C. */
 #include "trial.h"
 
 static partmem_machine machine, none;
@@ -35,7 +35,8 @@ static bool are_all(const void *result, uint8_t byte, size_t size)
 #define ZEROED(call, status, result) LEAVES(call, status, result, 0)
 #define KEPT(call, status, result) LEAVES(call, status, result, UNTOUCHED)
 
-/* Checks that every function with a tenant first tests whether there is a machine, and then whether there is the tenant. */
+/* Checks that every function with a tenant first tests whether there is a machine, and then whether there is the tenant. Only
+ * lengths may be tested in between: see check_lengths. */
 static void check_tenant(partmem_tenant tenant, partmem_status status)
 {
     MUST(ZEROED(partmem_grant(tenant, &slot), status, slot) && ZEROED(partmem_move(tenant, 99, &slot), status, slot));
@@ -54,8 +55,8 @@ static void check_tenant(partmem_tenant tenant, partmem_status status)
     MUST(ZEROED(partmem_find_place(tenant, bytes, &frames), status, frames));
 }
 
-/* Checks that a write and a new cache test the machine first, then whether a line could have the length, and then the tenant. A
- * read tests its length after the tenant. */
+/* Checks that partmem_write and partmem_make_cache first test the machine, then whether a line of a trace can have bytes of this
+ * length, and then the tenant. partmem_read tests its length after the tenant. */
 static void check_lengths(void)
 {
     MUST(partmem_write(nowhere, 0, bytes, 0) == PARTMEM_NO_MACHINE && partmem_write(nobody, 0, bytes, 0) == PARTMEM_NOT_AN_EVENT);
@@ -78,8 +79,8 @@ static bool is_kept_around(size_t written)
            are_all(fenced.inside + written, UNTOUCHED, sizeof fenced.inside + sizeof fenced.back - written);
 }
 
-/* Makes a read as an event, and passes this length of its buffer. Returns whether the reply has this kind, and only the bytes
- * that were read are written. */
+/* Makes a read with partmem_event, with `buffer_len` as the length of its buffer. Returns whether the reply has this kind, and
+ * the call wrote only the bytes that were read. */
 static bool reads(uint32_t place, uint32_t count, size_t buffer_len, uint32_t kind)
 {
     const partmem_request request = {PARTMEM_READ, first.number, place, count};
@@ -89,7 +90,7 @@ static bool reads(uint32_t place, uint32_t count, size_t buffer_len, uint32_t ki
     return status == PARTMEM_DONE && reply.kind == kind && is_kept_around(kind == PARTMEM_BYTES ? count : 0);
 }
 
-/* Checks that no call writes more than its declaration says, even if it is given a far larger length than its buffer has. `place`
+/* Checks that no call writes more than its declaration says, even if it is given a larger length than its buffer has. `place`
  * is in a page block full of zeroes. */
 static void check_wild_lengths(uint32_t place)
 {
@@ -131,8 +132,8 @@ static void check_machines(void)
     MUST(partmem_superblock_bytes(&none) == 0 && partmem_superblock_bytes(&machine) == 32768);
 }
 
-/* Checks which object or page block is found at each byte of three objects, and of a page block of two frames. The objects have
- * 72 bytes and lie side by side at multiples of 32. The middle one is given back first. */
+/* Checks what partmem_find_object finds at each byte of three objects, of the gaps behind them, and of a page block of two
+ * frames. The objects have 72 bytes and begin 96 bytes apart. The middle one is given back before the checks. */
 static void check_objects(uint32_t pages)
 {
     partmem_lent lives[3];
@@ -160,7 +161,7 @@ static void check_objects(uint32_t pages)
     MUST(partmem_destroy_cache(first, 1) == PARTMEM_DONE);
 }
 
-/* Checks refusals of a tenant that has two slots, a cache with a live object, and a page block of two frames. */
+/* Checks what is refused to a tenant with two slots, a cache with a live object, and a page block of two frames. */
 static void check_refusals(void)
 {
     partmem_lent pages, object;

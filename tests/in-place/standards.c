@@ -1,5 +1,5 @@
-/* Uses a page block, an object and a piece of a heap in place. The machine boots in arrays of the program. The program uses only
- * what C89 and C++98 have in common. */
+/* Uses a page block, an object and a piece of a heap in place. The machine boots in arrays of the program. Apart from the
+ * attribute `aligned`, the program uses only what C89 and C++98 have in common. */
 #include "partmem_heap.h"
 
 static unsigned char ram[PARTMEM_RAM_BYTES(3, 2)] __attribute__((aligned(4096)));

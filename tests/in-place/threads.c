@@ -1,5 +1,5 @@
 /* One thread loads and stores in place without a lock, in memory of one tenant. At the same time, two other threads make calls
- * under a lock, for this tenant and for others.
+ * under a lock, for this tenant and for others. Each byte has to be loaded as it was stored.
  *
  *     threads CALLS
  */
@@ -16,7 +16,7 @@ static atomic_bool is_over;
 static partmem_lent ranges[RANGES];
 static atomic_ulong rounds, calls;
 
-/* Fills all ranges again and again. Each time, adds to `wrong` how many bytes then differ from what was stored. */
+/* Fills all ranges again and again. Each time, adds to `wrong` the number of bytes that differ from what was stored. */
 static void *use_in_place(void *wrong)
 {
     for (unsigned seed = 0; !is_over; seed++, rounds++) {

@@ -1,4 +1,4 @@
-/* What the programs of this folder and of tests/heap share: checks that end a program, and pseudo-random numbers. */
+/* Shared by programs of this folder and of tests/heap: checks that end a program if they fail, pseudo-random numbers, and a boot. */
 #ifndef TRIAL_H
 #define TRIAL_H
 

@@ -1,5 +1,5 @@
 /* Mistakes of a library, each of which a program of this folder has to see. Link this file with the program and the library, and
- * with the linker's --wrap for each function __wrap_NAME below. -DWRONG=NAME chooses the mistake. */
+ * with the linker's --wrap for each function __wrap_NAME below. -DWRONG=MISTAKE chooses the mistake by its name in the enum. */
 #include <stdbool.h>
 #include <stdlib.h>
 #include <string.h>
@@ -15,11 +15,11 @@ enum {
     CLEARS_OBJECTS,    /* a take clears the object */
     FREES_FROM_INSIDE, /* a free of any place in the first frame frees the block */
     TOUCHES_ANOTHER,   /* an alloc of another tenant changes bytes of tenant 0's first block, and puts them back */
-    BEGINS_OFF_PAGE,   /* superblocks begin 16 bytes after pages */
+    BEGINS_OFF_PAGE,   /* superblocks begin 16 bytes after the beginning of a page */
     CLEARS_RAM,        /* boot clears the RAM */
     FINDS_ANOTHER,     /* find_place succeeds for addresses that the tenant does not hold */
-    FINDS_BESIDE,      /* find_object finds the neighbouring object */
-    CLEARS_REFUSED     /* a refused read clears as many bytes as its caller names, up to a page */
+    FINDS_BESIDE,      /* find_object returns the end of an object as its place */
+    CLEARS_REFUSED     /* a read that is refused for its length clears this many bytes, up to a page */
 };
 
 static uint32_t superblock_bytes;
@@ -35,7 +35,7 @@ partmem_status __wrap_partmem_boot_in(partmem_machine *machine, const partmem_co
     return __real_partmem_boot_in(machine, config, memory);
 }
 
-/* The result of rattle_alloc, by which the library allocates memory. */
+/* The result of rattle_alloc, the function with which the library allocates memory. */
 struct allocation {
     bool is_done;
     uint8_t *at;
@@ -83,7 +83,8 @@ static uint32_t superblock_of(partmem_tenant tenant, uint32_t place)
     return slot.superblock;
 }
 
-/* Allocates by an event. Lends the block if it is the first in its superblock. Otherwise computes its address from an old one. */
+/* Allocates with partmem_event. Lends the block if no block was allocated in its superblock before. Otherwise computes its address
+ * from an earlier one. */
 static partmem_status alloc_by_event(partmem_tenant tenant, uint32_t order, partmem_lent *block)
 {
     partmem_request request = {PARTMEM_ALLOC, tenant.number, order, 0};
