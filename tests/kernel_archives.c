@@ -1,4 +1,4 @@
-/* Runs the lines of a trace with the library that it is linked with, and prints their replies.
+/* Runs the lines of a trace with the library that this program is linked with, and prints their replies.
  *
  *     kernel_archives TRACE [interrupted | unaligned]
  *

@@ -1,5 +1,6 @@
-/* Checks the layout of the structs of partmem.h and partmem_heap.h on x86-64, and the types of their fields and of the functions:
- * if one differs, this does not compile. Fields lie in the order of the header, each at the next multiple of its alignment. */
+/* Checks the layout of the structs of partmem.h and partmem_heap.h on x86-64, the types of their fields, and the types of the
+ * functions that are named below. If one differs, this file does not compile. Fields lie in the order of the header, each at the
+ * next multiple of its alignment. */
 #include "partmem_heap.h"
 
 #define IS(expression, type) _Static_assert(_Generic((expression), type: 1, default: 0), #expression " is no " #type)

@@ -95,7 +95,7 @@ void __wrap_free(void *block)
     __real_free(block);
 }
 
-/* The functions of memory.c by which the kernel allocates. */
+/* The functions of crates/partmem_c/memory.c with which the kernel allocates and frees. */
 struct allocation {
     bool is_done;
     void *at;

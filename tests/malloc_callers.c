@@ -1,4 +1,5 @@
-/* Allocates memory in functions of known names, which tests/machines finds by the addresses in a log of machines/malloc_log.c. */
+/* Allocates memory in functions of known names. tests/machines checks that machines/from-malloc finds these names by the
+ * addresses in a log of machines/malloc_log.c. */
 #include <stdlib.h>
 
 #define ALONE __attribute__((noinline)) static void

@@ -53,8 +53,8 @@ int main(int words, char **unused)
         return 4;
     free(passed);
 
-    /* Fills more than a window of the log, after all files are closed and the folder has changed. At last the process kills
-     * itself, so that no code of the library runs at its end. */
+    /* Fills more than one window of the log, after files 3 to 1023 are closed and the folder has changed. At last the process
+     * kills itself, so that no code of the library runs at its end. */
     for (int file = 3; file < 1024; file++)
         close(file);
     if (chdir("/"))

@@ -1,4 +1,4 @@
-/* Shared by programs of this folder and of tests/heap: checks that end a program if they fail, pseudo-random numbers, and a boot. */
+/* For programs of this folder and of tests/heap: checks that end the program if they fail, pseudo-random numbers, and a boot. */
 #ifndef TRIAL_H
 #define TRIAL_H
 

@@ -83,8 +83,8 @@ static uint32_t superblock_of(partmem_tenant tenant, uint32_t place)
     return slot.superblock;
 }
 
-/* Allocates with partmem_event. Lends the block if no block was allocated in its superblock before. Otherwise computes its address
- * from an earlier one. */
+/* Allocates with partmem_event. Lends the block if no block was allocated in its superblock before. Otherwise computes its
+ * address from an earlier one. */
 static partmem_status alloc_by_event(partmem_tenant tenant, uint32_t order, partmem_lent *block)
 {
     partmem_request request = {PARTMEM_ALLOC, tenant.number, order, 0};
