@@ -29,7 +29,7 @@ ALONE hold_aligned(void)
     kept[13] = aligned_alloc(1024, 2048);
 }
 
-/* Frees what it allocates, before most bytes are live. */
+/* Frees what it allocates, before the most bytes are live. */
 ALONE let_go(void)
 {
     kept[14] = malloc(9000);

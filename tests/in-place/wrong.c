@@ -8,7 +8,7 @@
 
 enum {
     NO_MISTAKE,
-    NO_WRITE_OUT,      /* an alloc reuses an earlier address of the superblock, and does not lend */
+    NO_WRITE_OUT,      /* an alloc computes an address from an earlier one in the superblock, and does not lend */
     OTHER_SUPERBLOCK,  /* an alloc returns an address in the neighbouring superblock */
     STALE_AFTER_MOVE,  /* a lend returns the address that the slot had before a move */
     LENDS_SLAB,        /* lend_block also lends bytes of a slab */
