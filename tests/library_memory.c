@@ -1,6 +1,6 @@
-/* Checks when the library for C allocates and frees memory. Link this file with a program and the library. Give the linker --wrap=NAME for
- * each __wrap_NAME, OTHER(NAME, ..) and RETURNING(.., NAME, ..) below, so that calls of NAME come here. A block is memory that
- * the C library allocates, or that partmem's kernel allocates in the RAM or the tables.
+/* Checks when the library for C allocates and frees memory. Link this file with a program and the library. Give the linker
+ * --wrap=NAME for each __wrap_NAME, OTHER(NAME, ..) and RETURNING(.., NAME, ..) below, so that calls of NAME come here. A block
+ * is memory that the C library allocates, or that partmem's kernel allocates in the RAM or the tables.
  *
  * The process ends with status 70 if
  * - the library allocates a block outside of a boot, or frees one outside of a boot and an end;
