@@ -1,4 +1,4 @@
-//! Joins equal cells into rectangles. A rectangle is a run of rows of one tone that is the same in adjacent columns.
+//! Joins equal cells into rectangles. If adjacent columns have the same run of rows of one tone, these runs make one rectangle.
 
 ghost use Rattle.std.specs.Prelude.{◌≡◌, ◌≢◌, ℕ, ◌+◌, ◌-◌, ◌<◌, ◌≤◌, length, drop, MatchOption, IfSome};
 ghost use Rattle.std.specs.List.{prefix_len};
