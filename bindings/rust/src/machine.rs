@@ -78,7 +78,7 @@ pub struct Cache {
 
 /// A machine. Dropping it ends it, and frees the memory that [`Machine::boot`] has allocated.
 pub struct Machine {
-    /// The machine, in the tables after the library's part. It is booted.
+    /// Points to the booted `partmem_machine`. It lies in the memory of the tables, after the part that the library uses.
     raw: NonNull<sys::Machine>,
     config: Config,
     /// The memory that [`Machine::boot`] has allocated.
@@ -152,7 +152,8 @@ impl Machine {
         sys::Tenant(self.raw.as_ptr(), tenant.0)
     }
 
-    /// Returns the tenant. Fails with `Stale` for a handle of another machine, from before a reset, or of a destroyed cache.
+    /// Returns the tenant. Fails with `Stale` if the stamp is that of a handle or a [`Cache`] of another machine or from before a
+    /// reset, or that of a `Cache` that was destroyed.
     fn check(&self, tenant: Tenant, stamp: u64) -> Result<sys::Tenant, Error> {
         let same = self.stamps.get(tenant.0 as usize).map(Cell::get) == Some(stamp);
         same.then_some(self.of(tenant)).ok_or(Error::Stale)
@@ -320,8 +321,8 @@ impl Machine {
     /// Lends the bytes of a block or an object for reading.
     pub fn lend<'a, Kind>(&'a self, handle: &'a Handle<Kind>) -> Result<&'a [u8], Error> {
         let at = self.address_of(handle)?;
-        // SAFETY: the bytes stay there and live while the machine and the handle are borrowed, and have all been written. A store
-        // in them needs the handle or the machine unborrowed.
+        // SAFETY: all these bytes have been written. While the machine and the handle are borrowed, they stay there and live on.
+        // Nobody can store in them meanwhile: `lend_mut` needs the handle unborrowed, and `lend_at` the machine.
         Ok(unsafe { slice::from_raw_parts(at, handle.bytes as usize) })
     }
 
