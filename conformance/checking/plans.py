@@ -223,7 +223,7 @@ class Planner:
         sizes = self.machine([MOST_ORDER], [MOST_SUPERBLOCKS], [1, 2, 3])
         owner = [self.rng.randrange(sizes.tenants)]
         if self.with_caches and self.rng.random() < 0.5:
-            fill = [self.cache(owner, [8], [8]), Phase(72000, FILL_OBJECTS, owner, [0], [8], 'full')]
+            fill = [self.cache(owner, [8], [8]), Phase(78000, FILL_OBJECTS, owner, [0], [8], 'full')]
             return Plan(sizes, self.whole(sizes, owner, sizes.order, TAKE, fill))
         return Plan(sizes, self.whole(sizes, owner, 0, FILL_PAGES, []))
 
