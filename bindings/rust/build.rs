@@ -1,6 +1,6 @@
-//! Finds libpartmem.a, or the unproved library if there is none. With the feature `kernel` it finds libpartmem_kernel.a. If
-//! PARTMEM_DIR is set, it searches lib/ in that folder, and the folder itself. If not, it searches the folder that pkg-config
-//! names, and then out/lib/ and out/ of the repository that has this crate.
+//! Finds libpartmem.a, or the unproved library if no folder has libpartmem.a. With the feature `kernel` it finds
+//! libpartmem_kernel.a. If PARTMEM_DIR is set, it searches lib/ in that folder, and the folder itself. If not, it searches the
+//! folder that pkg-config names, and then out/lib/ and out/ of the repository that has this crate.
 use std::path::{Path, PathBuf};
 use std::process::{exit, Command};
 use std::{env, fs};

@@ -1,5 +1,5 @@
-//! Everything that this program allocates lies in the memory of one tenant, in a static. Another tenant is granted
-//! one superblock, and has its own heap there.
+//! The global allocator of this program is the heap of one tenant. The memory of the machine is a static. Another tenant
+//! is granted one superblock, and has its own heap there.
 use partmem::{Config, Error, Global, LazyHeap, Machine, StaticMemory, Tenant};
 use std::collections::BTreeMap;
 use std::sync::Mutex;

@@ -29,7 +29,7 @@ impl Server {
         Ok(place)
     }
 
-    /// Counts a hit. Returns the count and the user, if there is such a session.
+    /// Counts a hit of the client's session at this place. Returns its hits and its user, or `None` if there is no such session.
     fn hit(&mut self, client: Tenant, place: Place) -> Option<(u64, String)> {
         let bytes = self.machine.lend_mut(self.sessions.get_mut(&(client, place))?).ok()?;
         let hits = u64::from_le_bytes(bytes[..8].try_into().ok()?) + 1;

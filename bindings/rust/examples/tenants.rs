@@ -1,4 +1,4 @@
-//! Two tenants with a heap each. The first allocates until nothing is left, and is reset; the second does not notice.
+//! Two tenants have a heap each. Twice the first one fills its heap and is reset. The second one keeps its list.
 use partmem::{Boxed, Client, Config, Error, Heap, Machine};
 
 /// A node of a linked list in a heap: it holds the address of the next node.

@@ -2,8 +2,8 @@
 use crate::sys;
 use core::{fmt, slice, str};
 
-/// A refusal of a request, by its name in traces. Except for `PoolEmpty` it depends only on what the tenant itself did, its
-/// grants, take-backs and resets, and the machine's order and number of tenants.
+/// A refusal of a request, by its name in traces. Except for `PoolEmpty`, a refusal depends only on what the tenant itself did,
+/// on its grants, take-backs and resets, and on the machine's order and number of tenants.
 #[derive(Clone, Copy, Debug, PartialEq, Eq, Hash)]
 #[rustfmt::skip]
 pub enum Refusal {
@@ -19,22 +19,24 @@ const REFUSALS: [Refusal; 15] = [
     NoTenant, PoolEmpty, NoSlot, SlotBusy,
 ];
 
-/// Why a call did nothing: a refusal, a mistake of the caller, or `NoMemory`.
+/// Why a call failed: a refusal, a mistake of the caller, or `NoMemory`. A call that fails leaves the machine as it was, except
+/// that a heap may have made a cache, and a heap with runs may have freed the tenant's empty slabs.
 #[derive(Clone, Copy, Debug, PartialEq, Eq, Hash)]
 #[non_exhaustive]
 pub enum Error {
     Refused(Refusal),
     /// A number of the [`Config`](crate::Config) is out of range, or the sizes of a heap's classes are not allowed.
     BadConfig,
-    /// The [`Memory`](crate::Memory) of a machine is too small or not aligned, or the slots for a heap with runs do not lie in a
-    /// row.
+    /// The [`Memory`](crate::Memory) of a machine is too small or not aligned. Or a tenant cannot have a heap with runs: it has
+    /// no slot, or its slots do not lie in a row.
     BadMemory,
     /// An allocation failed. A heap returns it if no free block of its tenant is large enough, or if the alignment of the value
     /// is above 4096.
     NoMemory,
     /// The pattern of a cache does not have 1 to 16 bytes.
     BadPattern,
-    /// The handle belongs to another machine or tenant, its tenant was reset, or its cache was destroyed.
+    /// A handle or a [`Cache`](crate::Cache) belongs to another machine or tenant, or is from before a reset of its tenant. Or
+    /// the `Cache` was destroyed, or a [`Client`](crate::Client) belongs to another machine.
     Stale,
     /// A status that this crate does not expect.
     Other(u32),

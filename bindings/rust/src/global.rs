@@ -35,7 +35,7 @@ impl<T> SpinLock<T> {
     }
 }
 
-/// Releases a lock when it is dropped, even if the work panics.
+/// Releases the lock in its `drop`, which also runs if the work panics.
 struct Held<'l>(&'l AtomicBool);
 
 impl Drop for Held<'_> {
@@ -55,11 +55,12 @@ impl<T> Lock<T> for SpinLock<T> {
     }
 }
 
-/// A function that opens the machine of a program's global allocator. It must not allocate, and must not panic, since a panic
-/// allocates: an allocation in it would wait forever.
+/// A function that opens the machine of a program's global allocator. It must not allocate: the
+/// allocation would wait forever for the lock. It must not panic either, since a panic allocates.
 pub type Open = fn() -> Result<(Machine, Tenant), Error>;
 
-/// A heap with its machine, which never ends. The first allocation, or an earlier [`Global::with_others`], opens the machine.
+/// A heap and its machine. The machine never ends. The first allocation, or an earlier [`Global::with_others`], opens the
+/// machine.
 #[derive(Debug)]
 pub struct LazyHeap(State);
 
@@ -70,8 +71,8 @@ enum State {
     Failed,
 }
 
-// SAFETY: the machine and its heap go together, and a call of either needs `&mut LazyHeap`: so it comes from one thread at a
-// time.
+// SAFETY: a `LazyHeap` owns the machine and the heap. Each call to one of them needs `&mut LazyHeap`, so only one thread at a
+// time makes calls.
 unsafe impl Send for LazyHeap {}
 
 impl LazyHeap {
@@ -167,9 +168,9 @@ impl Drop for AbortsIfUnwound {
     }
 }
 
-// SAFETY: a piece has the size and the alignment of its layout, is apart from all others, and stays until it is freed: the
-// machine never ends, and nobody else gets this tenant, so that it is not reset or moved. If the lock passes another heap than
-// before, that heap refuses what it has not allocated.
+// SAFETY: a piece has the size and the alignment of its layout, overlaps no other piece, and stays until it is freed: the machine
+// never ends, and nobody gets a client of this tenant, without which it is neither reset nor moved. If the lock passes another
+// heap than before, that heap refuses what it has not allocated.
 unsafe impl<L: Lock<LazyHeap>> GlobalAlloc for Global<L> {
     unsafe fn alloc(&self, layout: Layout) -> *mut u8 {
         self.with_heap(|heap| heap.allocate(layout))
@@ -177,7 +178,7 @@ unsafe impl<L: Lock<LazyHeap>> GlobalAlloc for Global<L> {
 
     unsafe fn dealloc(&self, at: *mut u8, _: Layout) {
         self.with_heap(|heap| {
-            // SAFETY: the caller has it from this heap, and does not use it again.
+            // SAFETY: the caller has the piece from this heap, and does not use it again.
             unsafe { heap.free(at) };
             ptr::null_mut()
         });

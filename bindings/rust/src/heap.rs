@@ -7,16 +7,16 @@ use core::ops::{Deref, DerefMut};
 use core::ptr::{self, NonNull};
 use core::{fmt, mem};
 
-/// The alignment of all pieces.
+/// Each piece begins at a multiple of this number. A piece is memory that a heap has allocated and not freed.
 const STEP: usize = 16;
 
-/// The functions of partmem_heap.h for one heap, whose machine is booted. One call is made at a time.
+/// A `partmem_heap` of a booted machine. Its users make one call at a time.
 pub(crate) struct RawHeap(UnsafeCell<sys::Heap>);
 
 impl RawHeap {
     /// Initialises a heap. If there are no sizes, it has the default classes.
     pub(crate) fn new(tenant: sys::Tenant, sizes: &[u16], has_runs: bool) -> Result<RawHeap, Error> {
-        // A copy, since the sizes may lie in lent bytes.
+        // Copies the sizes: they may lie in lent bytes, and no argument of the library may lie there.
         let mut copy = [0; sys::MOST_CLASSES];
         copy.get_mut(..sizes.len()).ok_or(Error::BadConfig)?.copy_from_slice(sizes);
         let config = sys::HeapConfig { sizes: copy.as_ptr(), count: sizes.len() as u32, has_runs: has_runs.into() };
@@ -40,7 +40,8 @@ impl RawHeap {
         debug_assert_eq!(status, 0, "no piece of the heap begins there");
     }
 
-    /// Changes the size of a piece. Returns null if there is no memory; then nothing has changed.
+    /// Changes the size of a piece, and perhaps its address. Returns null if there is no memory, or if the new alignment is above
+    /// 4096; then the piece is as before.
     ///
     /// # Safety
     /// The piece is from this heap, with the layout `old`. Unless this returns null, `at` is not used again.
@@ -51,7 +52,7 @@ impl RawHeap {
         }
         let to = self.allocate(new);
         if !to.is_null() {
-            // SAFETY: both pieces have at least the bytes that are copied, and a new piece is apart from all others.
+            // SAFETY: both pieces have at least the bytes that are copied, and a new piece overlaps no other.
             unsafe {
                 ptr::copy_nonoverlapping(at, to, old.size().min(new.size()));
                 self.free(at);
@@ -60,7 +61,7 @@ impl RawHeap {
         to
     }
 
-    /// Destroys the heap's caches, except those with a live object, which was leaked.
+    /// Destroys the heap's caches, except those that still have a live object, because it was leaked.
     fn close(&mut self, tenant: sys::Tenant) {
         for cache in self.0.get_mut().cache_of.iter().filter(|cache| **cache > 0) {
             // SAFETY: the machine is booted, and no other call of it runs. Nothing of a cache without live objects is used.
@@ -78,12 +79,13 @@ impl RawHeap {
 /// `Vec::new_in(&heap)`. On any compiler [`Heap::boxed`], [`Heap::copied`] and [`Heap::text`] put values, slices and texts in it.
 ///
 /// It borrows the [`Client`], and what it allocates borrows the heap. So both have to be dropped before a reset or a move of this
-/// tenant. Dropping the heap destroys its caches. The tenant's values may hold the addresses of each other. `partmem_heap.h` says
-/// what is lost if a program computes with these addresses as numbers.
+/// tenant. Dropping the heap destroys its caches, except those with a leaked object. The values in a heap may hold the addresses
+/// of each other. `partmem_heap.h` says what is lost if a program computes with these addresses as numbers.
 ///
 /// # Runs
-/// With runs a request larger than a superblock gets superblocks that lie in a row. The tenant's slots have to be 0, 1, 2 .., and
-/// to lie in RAM one after another. They do if all of them are granted in a row after the boot.
+/// With runs a request larger than a superblock gets superblocks that lie in a row in RAM. The tenant has to have the slots 0, 1,
+/// 2 .., and their superblocks have to follow each other in RAM. They do if the first calls after the boot are grants, and no
+/// grant to another tenant comes between those to this tenant.
 pub struct Heap<'c> {
     raw: RawHeap,
     /// A second client of the tenant, which is not public. As long as the heap lives, the first one is borrowed, or is in an
@@ -128,14 +130,14 @@ impl Drop for Heap<'_> {
     }
 }
 
-/// A value in a [`Heap`]: it derefs to the value. Dropping it drops the value and frees its memory.
+/// The owner of a value in a [`Heap`]. It derefs to the value. Dropping it drops the value and frees the value's memory.
 pub struct Boxed<'h, T: ?Sized> {
-    /// The value, which is alive.
+    /// The address of the value, which is alive.
     at: NonNull<T>,
     heap: &'h Heap<'h>,
 }
 
-/// A piece of a heap. Dropping it frees it.
+/// A piece of a heap, without a value to drop. Dropping a `Piece` frees the piece.
 struct Piece<'h> {
     at: *mut u8,
     heap: &'h Heap<'h>,
@@ -143,7 +145,7 @@ struct Piece<'h> {
 
 impl Drop for Piece<'_> {
     fn drop(&mut self) {
-        // SAFETY: it is a piece of this heap, whose value is gone or was not written.
+        // SAFETY: it is a piece of this heap. Its value was moved out or dropped, or was never written.
         unsafe { self.heap.raw.free(self.at) }
     }
 }
@@ -164,7 +166,7 @@ impl<'c> Heap<'c> {
         let at = NonNull::new(self.raw.allocate(Layout::new::<T>()).cast::<T>()).ok_or(Error::NoMemory)?;
         let piece = Piece { at: at.as_ptr().cast(), heap: self };
         let value = make();
-        // SAFETY: the piece has the size and the alignment of `T`, and is this call's alone.
+        // SAFETY: the piece has the size and the alignment of `T`, and only this call uses it.
         unsafe { at.as_ptr().write(value) };
         mem::forget(piece);
         Ok(Boxed { at, heap: self })
@@ -173,7 +175,7 @@ impl<'c> Heap<'c> {
     /// Copies values into the heap. Fails with `NoMemory`.
     pub fn copied<T: Copy>(&self, values: &[T]) -> Result<Boxed<'_, [T]>, Error> {
         let at = NonNull::new(self.raw.allocate(Layout::for_value(values))).ok_or(Error::NoMemory)?.cast::<T>();
-        // SAFETY: the piece has the size and the alignment of the values, and is apart from them, since it is new.
+        // SAFETY: the piece has the size and the alignment of the values, and does not overlap them, since it is new.
         let at = unsafe {
             ptr::copy_nonoverlapping(values.as_ptr(), at.as_ptr(), values.len());
             NonNull::new_unchecked(ptr::slice_from_raw_parts_mut(at.as_ptr(), values.len()))
@@ -191,7 +193,7 @@ impl<'c> Heap<'c> {
 }
 
 impl<T: ?Sized> Boxed<'_, T> {
-    /// Returns the place of its first byte, which may be stored and shown instead of an address.
+    /// Returns the place of the value's first byte. Store and show this place instead of an address.
     pub fn place(this: &Self) -> Place {
         this.heap.raw.place(this.at.as_ptr().cast())
     }
@@ -243,15 +245,15 @@ mod allocator {
         NonNull::new(ptr::slice_from_raw_parts_mut(at, layout.size())).ok_or(AllocError)
     }
 
-    // SAFETY: a piece has the size and the alignment of its layout, is apart from all others, and stays until it is freed: no
-    // reset and no move comes while the heap is borrowed. Copies of the reference are the same heap.
+    // SAFETY: a piece has the size and the alignment of its layout, overlaps no other piece, and stays until it is freed: no
+    // reset and no move comes while the heap is borrowed. Copies of the reference lead to the same heap.
     unsafe impl Allocator for &Heap<'_> {
         fn allocate(&self, layout: Layout) -> Result<NonNull<[u8]>, AllocError> {
             memory(self.raw.allocate(layout), layout)
         }
 
         unsafe fn deallocate(&self, at: NonNull<u8>, _: Layout) {
-            // SAFETY: the caller has it from this heap, and does not use it again.
+            // SAFETY: the caller has the piece from this heap, and does not use it again.
             unsafe { self.raw.free(at.as_ptr()) }
         }
 
@@ -273,7 +275,7 @@ impl fmt::Debug for Heap<'_> {
     }
 }
 
-/// Formats the value without the address, which is not shown.
+/// Formats the value, and not its address, which no tenant may see.
 impl<T: fmt::Debug + ?Sized> fmt::Debug for Boxed<'_, T> {
     fn fmt(&self, to: &mut fmt::Formatter<'_>) -> fmt::Result {
         (**self).fmt(to)

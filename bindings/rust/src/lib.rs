@@ -2,9 +2,12 @@
 //!
 //! A [`Machine`] has RAM in superblocks, which are granted to tenants. Whatever the others do, a tenant gets the same results and
 //! finds the same bytes as if it were alone with the same grants, take-backs and resets. The header `partmem.h` describes the
-//! calls, and what is proved of them. Events, lines, `read`, `write` and the `find` functions are left out. `PARTMEM_DIR` (an
-//! absolute path of the installation or of its `lib`) or pkg-config names the folder of `libpartmem.a`; without either, the
-//! library is the one that the repository's `make test` has built, or else, with a warning, the one of `make unproved`.
+//! calls, and what is proved of them. This crate does not have all of them: it leaves out events, lines, `read`, `write`, the
+//! `find` functions and some others.
+//!
+//! The build searches the folder `PARTMEM_DIR` for `libpartmem.a`: an absolute path of the installation or of its `lib`. If
+//! `PARTMEM_DIR` is not set, it searches the folder that pkg-config names, and then the repository, where `make test` builds the
+//! library. If it finds no `libpartmem.a`, it links, with a warning, the unproved library that `make unproved` builds.
 //!
 //! | You want | Use |
 //! |---|---|
@@ -17,10 +20,10 @@
 //! # Features
 //!
 //! - `std`, on by default: [`Machine::boot`], `std::error::Error`, `std::sync::Mutex` as a [`Lock`]. Without it the crate uses
-//!   only `core`, and its user provides `memcpy`, `memmove` and `memset`, as the crate `compiler_builtins` does.
+//!   only `core`, and its user provides `memcpy`, `memmove` and `memset`, for example by the crate `compiler_builtins`.
 //! - `allocator_api`: `&Heap` is an `Allocator`. That needs a nightly compiler. The crate `allocator-api2` is not used, since this
 //!   crate depends on no other.
-//! - `kernel`: the library is `libpartmem_kernel.a`, which has no red zone and no vector registers.
+//! - `kernel`: the library is `libpartmem_kernel.a`, which uses no red zone and no vector registers.
 //!
 //! # Bytes
 //!
@@ -46,8 +49,8 @@
 //!
 //! # Handles and lends
 //!
-//! [`Machine::alloc`] and [`Machine::take`] return a handle, which is the only name of its bytes. A lend borrows the machine and
-//! the handle. It is a plain `&[u8]` or `&mut [u8]`.
+//! [`Machine::alloc`] and [`Machine::take`] return a handle. No other handle leads to the same bytes. A lend borrows the machine
+//! and the handle. It is a plain `&[u8]` or `&mut [u8]`.
 //!
 //! - Any number of handles may be lent at once, also during `alloc`, `take`, `lend` and `report`, which need only `&Machine`.
 //! - `free` and `give` consume their handle, so nobody has its bytes. Other handles may be lent meanwhile.
@@ -56,14 +59,14 @@
 //!   in the handle.
 //! - Handles can lie beside the machine in one struct. Typed values and what a heap allocates borrow their [`Client`], so they
 //!   cannot.
-//! - Dropping a handle leaves its bytes allocated until a reset. After a reset, or on another machine, a handle is
-//!   [`Error::Stale`].
+//! - Dropping a handle leaves its bytes allocated until a reset. If a handle is used after a reset of its tenant, or
+//!   on another machine, the call fails with [`Error::Stale`].
 //! - Links between objects are places, stored as numbers in lent bytes. [`Machine::lend_at`] follows them. It needs
 //!   `&mut Machine`, since a handle of the same bytes may be lent.
-//! - A machine is `Send` and not `Sync`, since calls are one at a time: threads share a `Mutex<Machine>`. Then a lend borrows the
-//!   lock's guard. Without a mutex, other threads of a scope may use lent bytes while the machine's own thread makes calls.
+//! - A machine is `Send` and not `Sync`, since calls are made one at a time: threads share a `Mutex<Machine>`. Then a lend borrows
+//!   the lock's guard. Without a mutex, other threads of a scope may use lent bytes while the machine's own thread makes calls.
 //! - A move or a reset of one client requires that nobody's bytes are lent, which is stricter than the library. After a
-//!   [`Machine::split`] it requires only that this client's are not.
+//!   [`Machine::split`] it requires only that none of this client's bytes are lent.
 //!
 //! # What the compiler refuses
 //!
@@ -112,7 +115,7 @@
 //! # fn f(administrator: partmem::Administrator, mut client: partmem::Client) -> Result<(), partmem::Error> {
 //! let cache = client.cache_of()?;
 //! let value = cache.take(1)?;
-//! administrator.reset(&mut client)?; // or a move; and so with a heap
+//! administrator.reset(&mut client)?; // or a move; a heap prevents both, too
 //! assert_eq!(*value, 1);
 //! # Ok(()) }
 //! ```
@@ -140,17 +143,17 @@
 //! The header ends in a list of duties. The crate fulfils those about machines, arguments, memory, bounds, endings, threads and
 //! reused numbers. These are left to you:
 //!
-//! - *Flows.* Do not store for one tenant what was loaded for another, and do not show it to that tenant. Do not store an
-//!   address, such as the `as_ptr` of a lend, in lent bytes, or show it to a tenant. Values with references, and collections, are
-//!   full of addresses: such a tenant may learn of others, as `partmem_heap.h` says.
-//! - *Users.* Code that has the machine can act for any tenant, and `lend_at` reaches every live object. Do not give them to a
-//!   tenant's user. A [`Client`] acts only for its tenant.
+//! - *Flows.* When you have loaded bytes for one tenant, do not store them for another tenant, or show them to it. Do not store an
+//!   address, such as the `as_ptr` of a lend, in lent bytes, or show it to a tenant. Values with references, and collections, hold
+//!   addresses. A tenant that has them may learn of other tenants, as `partmem_heap.h` says.
+//! - *Users.* Code that has the machine can act for any tenant, so do not give the machine to a tenant's user. A [`Client`] acts
+//!   only for its tenant. But its `lend_at` reaches every live object of the tenant, also those that you keep there.
 //! - *Ring 0.* A kernel has to keep this duty, which is about its stack and its registers.
 //! - *After the end.* The memory of [`Machine::boot`] goes back to the allocator with the tenants' bytes in it. Overwrite secrets
 //!   before you drop the machine.
 //! - *Booting.* The crate boots one machine at a time. C code in the same program must not boot another at the same time.
 //! - *Other code.* Make no call from a signal handler, nor from the forked child of a process with threads. The compiler sees no
-//!   page tables and no devices: unmap and stop them before a free, reset, move or end.
+//!   page tables and no devices. Map only page blocks. Unmap them, and stop devices, before a free, reset, move or end.
 #![no_std]
 #![cfg_attr(feature = "allocator_api", feature(allocator_api))]
 #![deny(missing_debug_implementations, unsafe_op_in_unsafe_fn, clippy::undocumented_unsafe_blocks)]
@@ -200,7 +203,7 @@ pub struct Config {
     pub tenants: u32,
 }
 
-/// A slot of a tenant, and the superblock under it. Only the administrator knows the superblock.
+/// A slot of a tenant, and the superblock under it. The administrator may know the superblock, but the tenant may not.
 #[derive(Clone, Copy, Debug, Default, PartialEq, Eq)]
 #[repr(C)]
 pub struct Slot {

@@ -1,4 +1,4 @@
-//! The machine and the handles of its blocks and objects. All unsafe code for lent bytes is here.
+//! The machine and the handles of its blocks and objects. Only this module makes slices of lent bytes from addresses.
 use crate::memory::{alone, Memory, Region};
 use crate::{error::done, sys, Administrator, Client, Clients, Config, Error, Figures, Place, Slot, Tenant};
 use core::cell::Cell;
@@ -21,7 +21,7 @@ pub(crate) fn result<T: Default>(call: impl FnOnce(&mut T) -> u32) -> Result<T, 
     done(call(&mut value)).map(|()| value)
 }
 
-/// A handle: the only name of a live block or object. Dropping it leaves the block allocated, or the object taken.
+/// The only handle of a live block or object. Dropping it leaves the block allocated, or the object taken.
 #[must_use = "a dropped handle leaves its bytes allocated"]
 pub struct Handle<Kind> {
     /// The stamp that the tenant had when the handle was made. A reset gives the tenant a new one.
@@ -55,13 +55,13 @@ unsafe impl<Kind: Send> Send for Handle<Kind> {}
 unsafe impl<Kind: Sync> Sync for Handle<Kind> {}
 
 impl<Kind> Handle<Kind> {
-    /// Returns the place of the first byte, which stays through moves.
+    /// Returns the place of the first byte. Moves do not change this place.
     pub fn place(&self) -> Place {
         self.place
     }
 }
 
-/// Formats the handle without the address, which is not shown.
+/// Formats the handle without its address, which no tenant may see.
 impl<Kind> fmt::Debug for Handle<Kind> {
     fn fmt(&self, to: &mut fmt::Formatter<'_>) -> fmt::Result {
         write!(to, "Handle({} bytes at place {} of tenant {})", self.bytes, self.place.0, self.tenant.0)
@@ -99,7 +99,7 @@ impl Machine {
     /// `NoMemory`.
     ///
     /// # Panics
-    /// If the library has another version than 2.
+    /// If the library's major version is not 2.
     #[cfg(feature = "std")]
     pub fn boot(config: Config) -> Result<Machine, Error> {
         config.check()?;
@@ -116,7 +116,7 @@ impl Machine {
     /// Boots a machine in which no superblock has an owner, in memory of the caller. Fails with `BadConfig`, `BadMemory`.
     ///
     /// # Panics
-    /// If the library has another version than 2.
+    /// If the library's major version is not 2.
     pub fn boot_in(config: Config, memory: Memory) -> Result<Machine, Error> {
         config.check()?;
         Machine::boot_at(config, memory.region(config)?)
@@ -127,8 +127,8 @@ impl Machine {
         // SAFETY: it only returns a number.
         assert_eq!(unsafe { sys::partmem_version() } / 10_000, 2, "the version of the library partmem");
         let memory = sys::Memory { ram: region.ram.as_ptr(), tables: region.tables.as_ptr() };
-        // SAFETY: the tables have space for the machine after the library's part, whose end is a multiple of 16. All zeroes means
-        // no machine.
+        // SAFETY: the tables have space for the `partmem_machine` at this offset, a multiple of 16 after the library's part. It
+        // has no machine while it is all zeroes.
         let raw = unsafe {
             let raw = region.tables.as_ptr().add(config.machine_offset()).cast::<sys::Machine>();
             raw.write(sys::Machine([ptr::null_mut(); 3]));
@@ -171,7 +171,7 @@ impl Machine {
         done(unsafe { sys::partmem_take_back(self.of(tenant), slot) })
     }
 
-    /// Replaces the superblock of a slot by the first one without an owner, and copies all its bytes. Handles stay valid.
+    /// Moves a slot, with all its bytes, to the first superblock without an owner. Handles stay valid.
     pub fn move_slot(&mut self, tenant: Tenant, slot: u32) -> Result<Slot, Error> {
         // SAFETY: nothing is lent, since lends borrow the machine.
         unsafe { self.move_shared(tenant, slot) }
@@ -257,11 +257,11 @@ impl Machine {
         if pattern.is_empty() || pattern.len() > MOST_PATTERN {
             return Err(Error::BadPattern);
         }
-        // A copy, since the pattern may lie in lent bytes.
+        // Copies the pattern: it may lie in lent bytes, and no argument of the library may lie there.
         let (mut copy, of, bytes) = ([0; MOST_PATTERN], self.of(tenant), pattern.len());
         copy[..bytes].copy_from_slice(pattern);
-        // SAFETY: the machine is booted, no other call of it runs, and the result goes to a local variable. The copy has that
-        // many bytes.
+        // SAFETY: the machine is booted, no other call of it runs, and the result goes to a local variable. The copy has at
+        // least `bytes` bytes.
         let made: sys::Cache =
             result(|made| unsafe { sys::partmem_make_cache(of, size, align, copy.as_ptr(), bytes, made) })?;
         Ok(Cache { stamp: self.stamps[tenant.0 as usize].get(), tenant, number: made.cache })
@@ -276,8 +276,8 @@ impl Machine {
         Ok(())
     }
 
-    /// Takes an object of a cache. A new object has the bytes of the pattern, any other one what was in it when it was given
-    /// back.
+    /// Takes an object of a cache. A new object has the bytes of the pattern. Any other object has the bytes that it had when it
+    /// was given back.
     pub fn take(&self, cache: &Cache) -> Result<Object, Error> {
         let tenant = self.check(cache.tenant, cache.stamp)?;
         // SAFETY: the machine is booted, no other call of it runs, and the result goes to a local variable.
@@ -292,7 +292,8 @@ impl Machine {
         done(unsafe { sys::partmem_give(tenant, object.kind.0, object.place) })
     }
 
-    /// Frees the empty slabs of all caches, as an `alloc` or a `take` does on demand. Returns how many frames they had.
+    /// Frees the empty slabs of all caches of a tenant, as an `alloc` or a `take` does on demand. Returns how many frames these
+    /// slabs had.
     pub fn reap(&self, tenant: Tenant) -> Result<u32, Error> {
         // SAFETY: the machine is booted, no other call of it runs, and the result goes to a local variable.
         result(|frames| unsafe { sys::partmem_reap(self.of(tenant), frames) })
@@ -330,7 +331,8 @@ impl Machine {
     pub fn lend_mut<'a, Kind>(&'a self, handle: &'a mut Handle<Kind>) -> Result<&'a mut [u8], Error> {
         handle.at = self.address_of(handle)?;
         handle.moves = self.moves.get();
-        // SAFETY: as in `lend`. Nobody else has these bytes: no other handle does, and `lend_at` takes the machine unborrowed.
+        // SAFETY: as in `lend`. Nobody else has these bytes: no other handle leads to them, and `lend_at` needs the machine
+        // unborrowed.
         Ok(unsafe { slice::from_raw_parts_mut(handle.at, handle.bytes as usize) })
     }
 

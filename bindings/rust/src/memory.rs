@@ -43,12 +43,12 @@ impl Config {
             + tenants * (4216 + 8 * superblocks + 12 * groups)
     }
 
-    /// Returns where the `partmem_machine` lies in the tables, after the library's part.
+    /// Returns the offset of the `partmem_machine` in the tables, in bytes. It lies after the library's part.
     pub(crate) const fn machine_offset(self) -> usize {
         (self.library_bytes() + TABLE_ALIGN - 1) / TABLE_ALIGN * TABLE_ALIGN
     }
 
-    /// Returns how many bytes of tables a machine has: those of the header's `PARTMEM_TABLE_BYTES`, and up to 40 for this crate.
+    /// Returns how many bytes of tables a machine has: those of the header's `PARTMEM_TABLE_BYTES`, and 24 to 39 for this crate.
     pub const fn table_bytes(self) -> usize {
         self.machine_offset() + size_of::<sys::Machine>()
     }
@@ -93,7 +93,7 @@ impl fmt::Debug for Memory {
     }
 }
 
-/// Memory of a new machine from the global allocator.
+/// Memory from the global allocator, for a new machine.
 #[cfg(feature = "std")]
 impl Region {
     fn layouts(config: Config) -> [std::alloc::Layout; 2] {
@@ -161,7 +161,7 @@ impl<const RAM: usize, const TABLES: usize> StaticMemory<RAM, TABLES> {
         }
         let (ram, tables) =
             (self.ram.0.get().cast::<[MaybeUninit<u8>; RAM]>(), self.tables.0.get().cast::<[MaybeUninit<u8>; TABLES]>());
-        // SAFETY: nobody else gets a reference to the bytes, since this is the first call. They may have no values.
+        // SAFETY: nobody else gets a reference to the bytes, since this is the first call. The bytes may be uninitialised.
         Some(unsafe { Memory { ram: &mut *ram, tables: &mut *tables } })
     }
 }

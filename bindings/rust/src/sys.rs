@@ -3,7 +3,7 @@ use crate::{Config, Figures, Place, Slot};
 use core::ffi::c_void;
 use core::mem::{size_of, MaybeUninit};
 
-/// A machine. It is all zeroes while none is booted.
+/// A `partmem_machine`. All its bytes are 0 while no machine is booted in it.
 #[repr(C)]
 pub struct Machine(pub [*mut c_void; 3]);
 
@@ -46,7 +46,7 @@ pub struct Heap {
     numbers: [u32; 3],
     sizes: [u16; MOST_CLASSES],
     aligns: [u16; MOST_CLASSES],
-    /// The number of the cache of each class plus 1, or 0 if the class has none.
+    /// For each class, the number of its cache plus 1, or 0 if the class has no cache.
     pub cache_of: [u8; MOST_CLASSES],
     class_in: [u8; 32],
     class_of: [u8; 257],

@@ -1,4 +1,4 @@
-//! The parts of a machine: its administrator, and its tenants apart from each other.
+//! The parts of a machine: its administrator, and a client for each tenant.
 use crate::{typed, Block, Cache, Error, Figures, Handle, Heap, Machine, Object, OwnedHeap, Place, Slot, Tenant};
 use core::{fmt, ptr};
 
@@ -6,16 +6,17 @@ use core::{fmt, ptr};
 #[derive(Clone, Copy)]
 pub struct Administrator<'a>(&'a Machine);
 
-/// The only handle of a tenant, in a machine that is divided by [`Machine::split`]. Code that has it acts only for this tenant.
+/// The only client of a tenant, in a machine that is divided by [`Machine::split`]. Code that has it acts only for this tenant.
 ///
-/// It has the calls of [`Machine`] for one tenant. What is lent borrows the client, and a handle of another tenant is
-/// [`Error::Stale`] here.
+/// It has the calls of [`Machine`] that a tenant makes. A lend borrows the client. A call with a handle or a [`Cache`] of another
+/// tenant fails with [`Error::Stale`].
 pub struct Client<'a> {
     machine: &'a Machine,
     tenant: Tenant,
 }
 
-/// Yields the tenants of a machine, each once, in the order of their numbers.
+/// An iterator over the clients of a machine, one for each tenant, in the order of their numbers. The one that
+/// [`Global::with_others`](crate::Global::with_others) passes leaves out the tenant of the global allocator.
 pub struct Clients<'a> {
     machine: &'a Machine,
     next: u32,
@@ -45,7 +46,7 @@ impl Administrator<'_> {
         self.0.report(tenant)
     }
 
-    /// Replaces the superblock of a slot by the first one without an owner, and copies all its bytes. Handles stay valid.
+    /// Moves a slot, with all its bytes, to the first superblock without an owner. Handles stay valid.
     pub fn move_slot(&self, client: &mut Client<'_>, slot: u32) -> Result<Slot, Error> {
         self.check(client)?;
         // SAFETY: nothing of this tenant is lent, since lends borrow its only client.
@@ -110,8 +111,9 @@ impl<'a> Client<'a> {
         self.heap_with(&[], false)
     }
 
-    /// Returns a heap of the tenant with classes of these sizes, or with the default ones if there are none, and with or without
-    /// [runs](Heap#runs). Fails with `BadConfig`, and with runs `BadMemory`.
+    /// Returns a heap of the tenant with classes of these sizes, in bytes: up to 24 rising multiples of 16, up to 4096. Without
+    /// sizes it has the default classes. If `has_runs` is true, it has [runs](Heap#runs). Fails with `BadConfig`; with runs also with
+    /// `BadMemory`.
     pub fn heap_with(&self, sizes: &[u16], has_runs: bool) -> Result<Heap<'_>, Error> {
         Heap::new(self.again(), sizes, has_runs)
     }
@@ -183,9 +185,9 @@ impl<'a> Client<'a> {
         self.machine.lend_mut(handle)
     }
 
-    /// Calls [`Machine::lend_at`] for this tenant.
+    /// Lends bytes of this tenant, as [`Machine::lend_at`] does. Meanwhile bytes of other tenants may be lent.
     pub fn lend_at(&mut self, place: Place, bytes: u32) -> Result<&mut [u8], Error> {
-        // SAFETY: nothing of this tenant is lent, since lends borrow its only client, and the result borrows it unshared.
+        // SAFETY: nothing of this tenant is lent, since lends borrow its only client, and the result borrows the client mutably.
         unsafe { self.machine.lend_shared(self.tenant, place, bytes) }
     }
 }

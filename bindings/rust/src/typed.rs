@@ -17,15 +17,16 @@ pub struct Cache<'c, T> {
     values: PhantomData<T>,
 }
 
-/// A value in an object of a [`Cache`]: it derefs to the value. Dropping it drops the value and gives the object back.
+/// The owner of a value in an object of a [`Cache`]. It derefs to the value. Dropping it drops the value and gives the object
+/// back.
 pub struct Object<'k, T> {
-    /// The value, which is alive.
+    /// The address of the value, which is alive.
     at: NonNull<T>,
     place: Place,
     cache: &'k Cache<'k, T>,
 }
 
-/// A taken object. Dropping it gives it back.
+/// A taken object, without a value to drop. Dropping a `Taken` gives the object back.
 struct Taken<'k, T> {
     at: NonNull<T>,
     place: Place,
@@ -53,7 +54,7 @@ impl<'c, T> Cache<'c, T> {
     pub fn take_with(&self, make: impl FnOnce() -> T) -> Result<Object<'_, T>, Error> {
         // SAFETY: the machine is booted, no other call of it runs, and the result goes to a local variable.
         let lent: sys::Lent = result(|lent| unsafe { sys::partmem_take(self.tenant(), self.cache.number, lent) })?;
-        // SAFETY: a call that is done lends an address, which is never null.
+        // SAFETY: the call has lent bytes, whose address is never null.
         let at = unsafe { NonNull::new_unchecked(lent.at.cast::<T>()) };
         let taken = Taken { at, place: lent.place, cache: self };
         let value = make();
@@ -81,7 +82,7 @@ impl<T> Drop for Taken<'_, T> {
 }
 
 impl<'k, T> Object<'k, T> {
-    /// Returns the place of its first byte, which may be stored and shown instead of an address.
+    /// Returns the place of the object's first byte. Store and show this place instead of an address.
     pub fn place(this: &Self) -> Place {
         this.place
     }
@@ -131,7 +132,7 @@ impl<T> fmt::Debug for Cache<'_, T> {
     }
 }
 
-/// Formats the value without the address, which is not shown.
+/// Formats the value, and not its address, which no tenant may see.
 impl<T: fmt::Debug> fmt::Debug for Object<'_, T> {
     fn fmt(&self, to: &mut fmt::Formatter<'_>) -> fmt::Result {
         (**self).fmt(to)

@@ -1,4 +1,4 @@
-//! Everything that this program allocates lies in the memory of one tenant, also what the threads of its tests allocate.
+//! The global allocator of this program is the heap of one tenant. All threads of the tests allocate from it.
 use partmem::{Config, Error, Global, LazyHeap, Machine, SpinLock, StaticMemory, Tenant};
 use std::alloc::{GlobalAlloc, Layout};
 use std::collections::BTreeMap;
@@ -62,7 +62,7 @@ fn requests_are_aligned_and_refused_like_those_of_a_heap() {
             GLOBAL.dealloc(at, layout(100));
         }
     }
-    // SAFETY: nothing is allocated.
+    // SAFETY: the size of the layout is not 0.
     assert!(unsafe { GLOBAL.alloc(Layout::from_size_align(1, 8192).unwrap()) }.is_null());
 }
 

@@ -1,11 +1,11 @@
-//! Machines that are booted: results, errors, moves, resets, and lends at once.
+//! Tests of booted machines: results, errors, moves, resets, and many lends at the same time.
 use partmem::{Block, Cache, Config, Error, Handle, Machine, Object, Place, Refusal, Tenant};
 use std::{sync::Barrier, thread};
 
 const ONE: Tenant = Tenant(0);
 const OTHER: Tenant = Tenant(1);
 
-/// Returns a machine in which the tenant ONE has a slot, and a cache of that tenant.
+/// Boots a machine, and gives the tenant ONE a slot and a cache. Returns the machine and the cache.
 fn booted(superblocks: u32) -> (Machine, Cache) {
     let machine = Machine::boot(Config { order: 3, superblocks, tenants: 3 }).unwrap();
     machine.grant(ONE).unwrap();
@@ -110,7 +110,7 @@ fn machines_boot_on_many_threads_at_once_and_share_nothing() {
     }
 }
 
-/// A tenant's user: its blocks and objects, each with the byte that fills it, and what it saw.
+/// A tenant's user. It has blocks and objects, each with the byte that fills it, and a list of what the user has seen.
 struct User {
     tenant: Tenant,
     random: u64,
@@ -120,7 +120,8 @@ struct User {
     seen: Vec<String>,
 }
 
-/// Lends all these handles at once. Checks that each has only bytes with its value, and that no two lends overlap.
+/// Lends all these handles at once. Checks that all bytes of each have the value beside the handle, and that no two lends
+/// overlap. Then it fills each with this value again.
 fn check<Kind>(machine: &Machine, handles: &mut [(Handle<Kind>, u8)]) {
     let mut lends: Vec<_> = handles.iter_mut().map(|(handle, fill)| (machine.lend_mut(handle).unwrap(), *fill)).collect();
     lends.sort_by_key(|(bytes, _)| bytes.as_ptr());
@@ -139,7 +140,7 @@ impl User {
         (self.random >> 33) as usize % below.max(1)
     }
 
-    /// Notes what is in new bytes, fills them, and keeps them.
+    /// Notes the place and a checksum of new bytes, and fills them with a random value. Returns the handle and the value.
     fn keep<Kind>(&mut self, machine: &Machine, mut handle: Handle<Kind>) -> (Handle<Kind>, u8) {
         let (place, fill, bytes) = (handle.place(), self.any(256) as u8, machine.lend_mut(&mut handle).unwrap());
         self.seen
@@ -184,7 +185,7 @@ impl User {
     }
 }
 
-/// Checks that a user sees the same alone and beside two others, while the slots of all are moved.
+/// Checks that a user sees the same in two runs: alone without moves, and beside two others while slots of all three are moved.
 #[test]
 fn a_tenant_sees_the_same_alone_and_beside_others() {
     for seed in 0..10 {

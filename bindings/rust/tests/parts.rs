@@ -1,4 +1,4 @@
-//! A machine's parts: tenants apart from each other, typed values, heaps, and memory of the caller's.
+//! Tests of a machine's parts: clients, typed values, heaps, and memory of the caller.
 use partmem::{typed, Administrator, Boxed, Client, Config, Error, Heap, Machine, Memory, Refusal, StaticMemory, Tenant};
 use std::cell::Cell;
 use std::mem::{align_of, forget, size_of, MaybeUninit};
