@@ -55,8 +55,8 @@ impl<T> Lock<T> for SpinLock<T> {
     }
 }
 
-/// A function that opens the machine of a program's global allocator. It must not allocate: the
-/// allocation would wait forever for the lock. It must not panic either, since a panic allocates.
+/// A function that opens the machine of a program's global allocator. It must not allocate: the allocation would wait
+/// forever for the lock. It must not panic either, since a panic allocates.
 pub type Open = fn() -> Result<(Machine, Tenant), Error>;
 
 /// A heap and its machine. The machine never ends. The first allocation, or an earlier [`Global::with_others`], opens the

@@ -41,7 +41,7 @@ impl RawHeap {
     }
 
     /// Changes the size of a piece, and perhaps its address. Returns null if there is no memory, or if the new alignment is above
-    /// 4096; then the piece is as before.
+    /// 4096. In both cases the piece stays as it was.
     ///
     /// # Safety
     /// The piece is from this heap, with the layout `old`. Unless this returns null, `at` is not used again.

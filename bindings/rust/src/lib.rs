@@ -5,9 +5,9 @@
 //! calls, and what is proved of them. This crate does not have all of them: it leaves out events, lines, `read`, `write`, the
 //! `find` functions and some others.
 //!
-//! The build searches the folder `PARTMEM_DIR` for `libpartmem.a`: an absolute path of the installation or of its `lib`. If
-//! `PARTMEM_DIR` is not set, it searches the folder that pkg-config names, and then the repository, where `make test` builds the
-//! library. If it finds no `libpartmem.a`, it links, with a warning, the unproved library that `make unproved` builds.
+//! The build looks for `libpartmem.a` in `PARTMEM_DIR`, an absolute path of the installation or of its `lib`. If `PARTMEM_DIR` is
+//! not set, it looks in the folder that pkg-config names, and then in the repository, where `make test` builds the library. If it
+//! finds no `libpartmem.a`, it links, with a warning, the unproved library that `make unproved` builds.
 //!
 //! | You want | Use |
 //! |---|---|
@@ -21,8 +21,8 @@
 //!
 //! - `std`, on by default: [`Machine::boot`], `std::error::Error`, `std::sync::Mutex` as a [`Lock`]. Without it the crate uses
 //!   only `core`, and its user provides `memcpy`, `memmove` and `memset`, for example by the crate `compiler_builtins`.
-//! - `allocator_api`: `&Heap` is an `Allocator`. That needs a nightly compiler. The crate `allocator-api2` is not used, since this
-//!   crate depends on no other.
+//! - `allocator_api`: `&Heap` is an `Allocator`. That needs a nightly compiler. The crate `allocator-api2` is not used, since
+//!   this crate depends on no other.
 //! - `kernel`: the library is `libpartmem_kernel.a`, which uses no red zone and no vector registers.
 //!
 //! # Bytes
@@ -63,8 +63,9 @@
 //!   on another machine, the call fails with [`Error::Stale`].
 //! - Links between objects are places, stored as numbers in lent bytes. [`Machine::lend_at`] follows them. It needs
 //!   `&mut Machine`, since a handle of the same bytes may be lent.
-//! - A machine is `Send` and not `Sync`, since calls are made one at a time: threads share a `Mutex<Machine>`. Then a lend borrows
-//!   the lock's guard. Without a mutex, other threads of a scope may use lent bytes while the machine's own thread makes calls.
+//! - A machine is `Send` and not `Sync`, since calls are made one at a time: threads share a `Mutex<Machine>`. Then a lend
+//!   borrows the lock's guard. Without a mutex, other threads of a scope may use lent bytes while the machine's own thread makes
+//!   calls.
 //! - A move or a reset of one client requires that nobody's bytes are lent, which is stricter than the library. After a
 //!   [`Machine::split`] it requires only that none of this client's bytes are lent.
 //!
@@ -143,9 +144,9 @@
 //! The header ends in a list of duties. The crate fulfils those about machines, arguments, memory, bounds, endings, threads and
 //! reused numbers. These are left to you:
 //!
-//! - *Flows.* When you have loaded bytes for one tenant, do not store them for another tenant, or show them to it. Do not store an
-//!   address, such as the `as_ptr` of a lend, in lent bytes, or show it to a tenant. Values with references, and collections, hold
-//!   addresses. A tenant that has them may learn of other tenants, as `partmem_heap.h` says.
+//! - *Flows.* When you have loaded bytes for one tenant, do not store them for another tenant, or show them to it. Do not store
+//!   an address, such as the `as_ptr` of a lend, in lent bytes, or show it to a tenant. Values with references, and collections,
+//!   hold addresses. A tenant that has them may learn of other tenants, as `partmem_heap.h` says.
 //! - *Users.* Code that has the machine can act for any tenant, so do not give the machine to a tenant's user. A [`Client`] acts
 //!   only for its tenant. But its `lend_at` reaches every live object of the tenant, also those that you keep there.
 //! - *Ring 0.* A kernel has to keep this duty, which is about its stack and its registers.

@@ -101,7 +101,8 @@ impl<'a> Client<'a> {
         (tenant == self.tenant).then_some(()).ok_or(Error::Stale)
     }
 
-    /// Returns a cache of values of a type, in the tenant's memory.
+    /// Makes a cache of values of a type, in the tenant's memory. Fails with `BadSize` if a value has more than 4096 bytes, with
+    /// `BadAlign` if its alignment is above 256, and with `NoCacheSlot` if the tenant has 32 caches.
     pub fn cache_of<T>(&self) -> Result<typed::Cache<'_, T>, Error> {
         typed::Cache::new(self)
     }
@@ -112,8 +113,8 @@ impl<'a> Client<'a> {
     }
 
     /// Returns a heap of the tenant with classes of these sizes, in bytes: up to 24 rising multiples of 16, up to 4096. Without
-    /// sizes it has the default classes. If `has_runs` is true, it has [runs](Heap#runs). Fails with `BadConfig`; with runs also with
-    /// `BadMemory`.
+    /// sizes it has the default classes. If `has_runs` is true, it has [runs](Heap#runs). Fails with `BadConfig`; with runs also
+    /// with `BadMemory`.
     pub fn heap_with(&self, sizes: &[u16], has_runs: bool) -> Result<Heap<'_>, Error> {
         Heap::new(self.again(), sizes, has_runs)
     }

@@ -50,7 +50,7 @@ fn collections_of_many_threads_lie_in_the_tenants_memory() {
 fn requests_are_aligned_and_refused_like_those_of_a_heap() {
     for align in (0..13).map(|power| 1 << power) {
         let layout = |bytes| Layout::from_size_align(bytes, align).unwrap();
-        // SAFETY: each layout is the layout of the piece, and the piece is freed once.
+        // SAFETY: no layout is empty. Each call with the piece gets the layout that the piece has, and the piece is freed once.
         unsafe {
             let at = GLOBAL.alloc_zeroed(layout(100));
             assert!(!at.is_null() && at as usize % align == 0 && (0..100).all(|byte| *at.add(byte) == 0));
