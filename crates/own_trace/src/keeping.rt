@@ -15,11 +15,10 @@ ghost use Rattle.replay_core.specs.Pushes.{HasPushed};
 ghost use Rattle.own_trace.specs.Kept.{has_entry};
 ghost use Rattle.own_trace.specs.Keeping.{KeepsOwn, NamesEnd, keeps};
 
+use crate::quick::keep_ended_lines;
 use kernel_core::Kernel;
 use quick_core::{CR_LF, LF};
-use replay_core::{
-    Drain, EndFailed, Feed, Sink, Stopped, do_front, do_lines, push_all, reply_in_rows,
-};
+use replay_core::{Drain, EndFailed, Feed, Sink, Stopped, do_lines, push_all, reply_in_rows};
 use thiserror::Error;
 use words_core::{Addressee, AdminCommand, Answer, Body, Event, LineFault, Reply};
 
@@ -118,9 +117,9 @@ impl Sink for OwnLines {
         drain: &mut D,
     ) -> Result<&'a [u8], Stopped> {
         if returns {
-            do_front::<CR_LF, Self, D>(self, piece, kernel, drain)
+            keep_ended_lines::<CR_LF, D>(piece, kernel, drain, self.tenant)
         } else {
-            do_front::<LF, Self, D>(self, piece, kernel, drain)
+            keep_ended_lines::<LF, D>(piece, kernel, drain, self.tenant)
         }
     }
 
