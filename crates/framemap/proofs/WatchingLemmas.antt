@@ -1,5 +1,5 @@
 -- Every line that is run is counted, and its event too.
-use Rattle.std.proofs.Common.{◌≡◌, ℕ, ◌+◌, ◌^◌, ◌<◌, List, [], ◌∷◌, ◌++◌, Ok, Option, Some, None, length, refl, ap, sym, subst, ◌∙◌, arith, length-append}
+use Rattle.std.proofs.Common.{◌≡◌, ℕ, ◌+◌, ◌-◌, ◌^◌, ◌<◌, List, [], ◌∷◌, ◌++◌, Ok, Option, Some, None, length, take, drop, refl, ap, sym, subst, ◌∙◌, arith, length-append}
 use Rattle.std.proofs.lemmas.List.{append-nil}
 use Rattle.std.specs.Io.KnownBytes.{Consumes, IsAtEnd}
 use Rattle.words_core.specs.declared.event.Command.{Command}
@@ -9,29 +9,27 @@ use Rattle.quick_core.specs.Lines.{ReadsAs}
 use Rattle.kernel_core.specs.Content.{KernelContent}
 use Rattle.frame_picture.specs.Histories.{line_count}
 use Rattle.streams.proofs.MoveLemmas.{appends_nothing}
-use Rattle.replay_core.specs.Doing.{HaveRun}
-use Rattle.replay_core.specs.QuickLine.{HasDoneFront}
-use Rattle.replay_core.proofs.DoingLemmas.{run_keeps}
-use Rattle.replay_core.proofs.FrontLemmas.{read_ends}
+use Rattle.replay_core.specs.Doing.{HaveRun, HasGone}
+use Rattle.replay_core.proofs.DoingLemmas.{run_keeps, gone_end}
+use Rattle.replay_core.proofs.QuickLemmas.{front_cut}
 use Rattle.replay_core.proofs.RunLemmas.{events_more}
 use Rattle.framemap.specs.declared.watched.Watched.{Watched}
 use Rattle.framemap.specs.Watching.{watches, HasWatched}
 
--- if the line at the front is a request, and the numbers of events and of lines have grown by 1, the line at the front is counted
-pub request_counted : (s s' : Watched × KernelContent) (bytes : List ℕ) (known : Option (List ℕ)) (tenant : ℕ) (command : Command) (len : ℕ)
-    → ReadsAs bytes tenant command len → s'.0.events ≡ s.0.events + 1
-    → (line_count s.0.history + 1 < 2 ^ 32 → line_count s'.0.history ≡ line_count s.0.history + 1)
-    → HasDoneFront watches s bytes known known (Ok (Some len)) s'
-request_counted s s' bytes known tenant command len read events lines = (
-  read_ends bytes tenant command len read,
-  record {
-    taken = [];
-    rest = [];
-    did = record { silent = refl; whole = refl; events = omega (arith, events, ap (λ r. length (event_in r)) read.reading); lines = lines };
-    appended = appends_nothing known;
-    whole = refl;
-  },
-)
+-- if the request at the front of the rest was counted as an event and a line, all lines up to it were counted
+pub request_counted : (s mid s' : Watched × KernelContent) (bytes rest : List ℕ) (known : Option (List ℕ)) (tenant : ℕ) (command : Command) (len : ℕ)
+    → ReadsAs rest tenant command len → HasGone watches s bytes rest known known mid → s'.0.events ≡ mid.0.events + 1
+    → (line_count mid.0.history + 1 < 2 ^ 32 → line_count s'.0.history ≡ line_count mid.0.history + 1)
+    → HasGone watches s bytes (drop len rest) known known s'
+request_counted s mid s' bytes rest known tenant command len read gone events lines =
+    let cut = front_cut rest tenant command len read in
+    gone_end watches s mid s' bytes [] rest (take (len - 1) rest) (drop len rest) known known known gone tt cut.0 cut.1 (record {
+      taken = [];
+      rest = [];
+      did = record { silent = refl; whole = refl; events = omega (arith, events, ap (λ r. length (event_in r)) read.reading); lines = lines };
+      appended = appends_nothing known;
+      whole = refl;
+    })
 
 -- if the lines `xs` were counted and then one more line, all these lines were counted
 one_watched : (old : Watched) (xs : List (List ℕ)) (line taken here : List ℕ) (s s' : Watched × KernelContent) → HasWatched xs old s.0 → watches s line here [] s'

@@ -1,16 +1,15 @@
 //! Runs the lines of a trace for a picture.
 
-ghost use Rattle.std.specs.Prelude.{◌≡◌, ◌^◌, IfSome};
-ghost use Rattle.words_core.specs.Requests.{command_of, IsAskable};
-ghost use Rattle.quick_core.specs.Lines.{ReadsAs};
+ghost use Rattle.std.specs.Prelude.{◌≡◌, ℕ, ◌+◌, ◌^◌, ◌<◌, ◌≤◌, List, Option, length};
 ghost use Rattle.frame_picture.specs.Histories.{line_count};
+ghost use Rattle.replay_core.specs.Doing.{HasGone};
 ghost use Rattle.framemap.specs.Watching.{watches};
 
 use frame_picture::history::History;
 use kernel_core::Kernel;
 use model_core::limits::MOST_BYTES;
-use quick_core::{CR_LF, LF, RequestLine, read_ended_request};
-use replay_core::{Drain, QuickSink, Sink, Stopped, do_front};
+use quick_core::{CR_LF, LF, read_ended_request};
+use replay_core::{Drain, Sink, Stopped};
 use words_core::{Addressee, Answer, Event, LineFault, Refusal};
 
 /// Keeps the history of the machine's states over the lines of a trace, and counts the events. No reply is written.
@@ -22,6 +21,33 @@ pub struct Watched {
 }
 
 impl Watched {
+    /// Runs the quick requests at the front of a piece, and returns the rest of the piece. The lines end in LF, or in CR LF if
+    /// `RETURNS`.
+    fn watch_requests<'a, const RETURNS: bool>(
+        &mut self,
+        piece: &'a [u8],
+        kernel: &mut Kernel,
+    ) -> &'a [u8]
+        requires { self.old.events + length piece.now < 2 ^ 64 }
+        ensures gone { (known : Option (List ℕ))
+            → HasGone watches (self.old, kernel.old) piece.now result.now known known (self.new, kernel.new) }
+        ensures left { self.new.events + length result.now ≤ self.old.events + length piece.now }
+    {
+        // One buffer for the bytes of a write, for all lines.
+        let mut buffer = [0; MOST_BYTES];
+        let mut rest = piece;
+        'lines: while let Some(line) = read_ended_request::<RETURNS>(rest, &mut buffer) {
+            let len = line.len;
+            if let Some((t, answer)) = kernel.ask(line.tenant, line.request) {
+                self.note_refusal(Addressee::Tenant(t), answer);
+            }
+            self.history.add_line(kernel);
+            self.events += 1;
+            rest = &rest[len..];
+        }
+        rest
+    }
+
     /// Counts the request if it was refused for lack of frames.
     fn note_refusal(&mut self, addressee: Addressee, answer: Answer<'_>)
         ensures events { self.new.events ≡ self.old.events }
@@ -51,12 +77,14 @@ impl Sink for Watched {
         piece: &'a [u8],
         returns: bool,
         kernel: &mut Kernel,
-        drain: &mut D,
+        _drain: &mut D,
     ) -> Result<&'a [u8], Stopped> {
+        // The count fits its type.
+        let _events = self.events;
         if returns {
-            do_front::<CR_LF, Self, D>(self, piece, kernel, drain)
+            Ok(self.watch_requests::<CR_LF>(piece, kernel))
         } else {
-            do_front::<LF, Self, D>(self, piece, kernel, drain)
+            Ok(self.watch_requests::<LF>(piece, kernel))
         }
     }
 
@@ -100,52 +128,4 @@ impl Sink for Watched {
     }
 
     fn unended(&mut self, _reading: Result<Option<Event>, LineFault>, _front: &[u8]) {}
-}
-
-impl QuickSink for Watched {
-    ghost use Rattle.std.specs.Prelude.{◌-◌};
-
-    ghost does = { watches };
-
-    ghost lines_left = { λ watched. 2 ^ 64 - 1 - watched.events };
-
-    #[inline(always)]
-    fn quick_line<D: Drain>(
-        &mut self,
-        bytes: &[u8],
-        returns: bool,
-        buffer: &mut [u8; MOST_BYTES],
-        kernel: &mut Kernel,
-        _drain: &mut D,
-    ) -> Result<Option<usize>, Stopped> {
-        // The count fits its type.
-        let _events = self.events;
-        let Some(line) = read_front(bytes, returns, buffer) else {
-            return Ok(None);
-        };
-        let len = line.len;
-        if let Some((t, answer)) = kernel.ask(line.tenant, line.request) {
-            self.note_refusal(Addressee::Tenant(t), answer);
-        }
-        self.history.add_line(kernel);
-        self.events += 1;
-        Ok(Some(len))
-    }
-}
-
-/// Reads the quick request at the front of these bytes. The line ends in LF, or in CR LF if `returns`.
-#[inline(always)]
-fn read_front<'a>(
-    bytes: &[u8],
-    returns: bool,
-    buffer: &'a mut [u8; MOST_BYTES],
-) -> Option<RequestLine<'a>>
-    ensures reads { IfSome result (λ line. ReadsAs bytes.now line.tenant (command_of line.request) line.len) }
-    ensures askable { IfSome result (λ line. IsAskable line.request) }
-{
-    if returns {
-        read_ended_request::<CR_LF>(bytes, buffer)
-    } else {
-        read_ended_request::<LF>(bytes, buffer)
-    }
 }
