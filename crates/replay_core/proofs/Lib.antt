@@ -1,5 +1,4 @@
 pub mod DoingLemmas
-pub mod FrontLemmas
 pub mod LineLemmas
 pub mod OwnLemmas
 pub mod PendingLemmas

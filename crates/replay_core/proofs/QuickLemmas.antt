@@ -1,7 +1,6 @@
 -- The line at the front of a piece was answered in full, or the drain failed within its answer.
 use Rattle.std.proofs.Common.{◌≡◌, ℕ, ◌+◌, ◌-◌, ◌<◌, ◌≤◌, List, [], ◌∷◌, ◌++◌, Option, Some, length, take, drop, position, ◌==◌, ap, sym, ◌∙◌, arith, length-drop}
-use Rattle.std.specs.Prelude.{true, Result, Ok, Err}
-use Rattle.std.specs.Result.{is_err}
+use Rattle.std.specs.Prelude.{Ok, Err}
 use Rattle.words_core.specs.declared.event.Event.TheVariants.{Tenant}
 use Rattle.words_core.specs.Grammar.{reading_of}
 use Rattle.words_core.specs.declared.event.Command.{Command}
@@ -11,12 +10,10 @@ use Rattle.streams.specs.declared.feed.Stopped.{Stopped}
 use Rattle.replay_core.specs.declared.run.Run.{Run}
 use Rattle.replay_core.specs.Noting.{Noting}
 use Rattle.replay_core.specs.Doing.{HasDone, HasGone, HasStopped}
-use Rattle.replay_core.specs.QuickLine.{HasDoneFront}
 use Rattle.streams.specs.Lines.{IsOneLine}
 use Rattle.replay_core.specs.Standing.{AnswersRead, answers}
 use Rattle.replay_core.proofs.DoingLemmas.{gone_end, stopped_end}
 use Rattle.streams.proofs.LineLemmas.{found_cut}
-use Rattle.replay_core.proofs.FrontLemmas.{read_ends, front_failed}
 use Rattle.replay_core.proofs.RunLemmas.{done_of_event}
 
 -- if the bytes before the first LF of `rest` are read alone as a request, `rest` begins with the line of this request
@@ -56,21 +53,6 @@ module _ {N : Type 0} (noting : Noting N) where
       let cut = front_cut rest tenant command len read in
       stopped_end (answers noting) s mid s' bytes [] rest (take (len - 1) rest) (drop len rest) old now new stopped gone tt cut.0 cut.1
       (done_of_event noting mid s' (take (len - 1) rest) _ now new (Err stopped) read.reading done)
-
-  -- if the line at the front was run and answered in full, `HasDoneFront` holds with its length
-  pub front_answered : (s s' : Run N × KernelContent) (bytes : List ℕ) (old new : Option (List ℕ)) (tenant : ℕ) (command : Command) (len : ℕ)
-      → ReadsAs bytes tenant command len → HasDone (AnswersRead noting []) s (Ok (Some (Tenant tenant command))) old new (Ok tt) s'
-      → HasDoneFront (answers noting) s bytes old new (Ok (Some len)) s'
-  front_answered s s' bytes old new tenant command len read done =
-      (read_ends bytes tenant command len read, done_of_event noting s s' (take (len - 1) bytes) _ old new (Ok tt) read.reading done)
-
-  -- if the drain failed within the answer to the line at the front and the result is an error, `HasDoneFront` holds
-  pub front_cut_short : (s s' : Run N × KernelContent) (bytes : List ℕ) (old new : Option (List ℕ)) (r : Result (Option ℕ) Stopped) (stopped : Stopped) (tenant : ℕ) (command : Command) (len : ℕ)
-      → is_err r ≡ true → ReadsAs bytes tenant command len → HasDone (AnswersRead noting []) s (Ok (Some (Tenant tenant command))) old new (Err stopped) s'
-      → HasDoneFront (answers noting) s bytes old new r s'
-  front_cut_short s s' bytes old new r stopped tenant command len failed read done =
-      front_failed (answers noting) s bytes old new r len stopped s' failed (read_ends bytes tenant command len read)
-      (done_of_event noting s s' (take (len - 1) bytes) _ old new (Err stopped) read.reading done)
 
 -- if `rest` has at least `len` bytes, its length is the sum of `len` and the number of bytes after the first `len` bytes
 pub left_over : (rest : List ℕ) (len : ℕ) → len ≤ length rest → length (drop len rest) + len ≡ length rest

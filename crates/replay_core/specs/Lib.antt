@@ -1,11 +1,11 @@
 pub mod Bounds
 pub mod Doing
 pub mod Ending
+pub mod Front
 pub mod Noting
 pub mod Pending
 pub mod Promised
 pub mod Pushes
-pub mod QuickLine
 pub mod Rows
 pub mod Runs
 pub mod Shown

@@ -1,21 +1,20 @@
 //! Runs frequent lines and writes their answers straight into the drain's buffer. Each command has its own copy of the code.
 
-ghost use Rattle.std.specs.Prelude.{◌≡◌, ◌+◌, ◌<◌, ◌≤◌, false, true, [], Some, Ok, length, is_err};
-ghost use Rattle.quick_core.specs.Lines.{NamesTenant};
+ghost use Rattle.std.specs.Prelude.{◌≡◌, ◌+◌, ◌^◌, ◌<◌, ◌≤◌, false, true, [], Some, Ok, length};
 ghost use Rattle.words_core.specs.Requests.{command_of, IsAskable};
 ghost use Rattle.words_core.specs.declared.event.Event.TheVariants.{Tenant};
 ghost use Rattle.words_core.specs.declared.reply.Addressee.TheVariants as To;
 ghost use Rattle.world_core.specs.Output.{is_shown};
-ghost use Rattle.replay_core.specs.Doing.{HasDone};
-ghost use Rattle.replay_core.specs.QuickLine.{HasDoneFront};
+ghost use Rattle.replay_core.specs.Doing.{HasDone, HasGone};
+ghost use Rattle.replay_core.specs.Front.{HasAnsweredLine};
 ghost use Rattle.replay_core.specs.Standing.{IsReady, AnswersRead, answers};
 
 use crate::notes::{Notes, note_answer};
 use crate::run::Run;
 use kernel_core::Kernel;
 use model_core::limits::MOST_BYTES;
-use quick_core::{LF, Number, WINDOW, read_known_request, read_tenant};
-use streams::{Drain, Stopped};
+use quick_core::{LF, read_known_request, read_tenant};
+use streams::Drain;
 use words_core::{Addressee, Request};
 
 /// The numbers of the frequent commands, and `RARE` for all others.
@@ -34,64 +33,58 @@ const WRITE: usize = 5;
 const RARE: usize = 6;
 
 impl<N: Notes> Run<N> {
-    /// Runs and answers the quick line at the front of these bytes and returns its length with the line end: LF, or CR LF if
-    /// `RETURNS`. If there is no quick line, returns `None` and does nothing.
-    #[inline(always)]
-    pub fn answer_line<const RETURNS: bool, D: Drain>(
+    /// Runs the quick requests of existing, shown tenants at the front of a piece, while the drain has space for an answer.
+    /// Returns the rest of the piece. The lines end in LF, or in CR LF if `RETURNS` is true.
+    // Kept out of line, which gives its loop all registers.
+    #[inline(never)]
+    pub fn run_in_place<'a, const RETURNS: bool, D: Drain>(
         &mut self,
-        bytes: &[u8],
-        buffer: &mut [u8; MOST_BYTES],
+        piece: &'a [u8],
         kernel: &mut Kernel,
         drain: &mut D,
-    ) -> Result<Option<usize>, Stopped>
-        requires { IsReady (D.has_failed drain.old) self.old (length bytes.now) }
-        ensures done { HasDoneFront (answers N.noting) (self.old, kernel.old) bytes.now
-            (D.contents drain.old) (D.contents drain.new) result (self.new, kernel.new) }
-        ensures left { self.new.lines ≤ self.old.lines + 1 }
-        ensures failed { D.has_failed drain.new ≡ is_err result }
+    ) -> &'a [u8]
+        requires { IsReady (D.has_failed drain.old) self.old (length piece.now) }
+        ensures done { HasGone (answers N.noting) (self.old, kernel.old) piece.now result.now
+            (D.contents drain.old) (D.contents drain.new) (self.new, kernel.new) }
+        ensures left { self.new.lines + length result.now ≤ self.old.lines + length piece.now }
+        ensures within { length result.now ≤ length piece.now }
+        ensures failed { D.has_failed drain.new ≡ false }
     {
-        let Some(number) = read_tenant(bytes) else {
-            return Ok(None);
-        };
-        match kernel.tenant(number.value) {
-            Some(t) if self.replies.is_shown(Addressee::Tenant(t)) && drain.has_space() => {
-                let Some(line) = read_known_request::<RETURNS>(bytes, number, buffer) else {
-                    return Ok(None);
-                };
-                let len = line.len;
-                self.answer_request::<RETURNS, D>(t, line.request, kernel, drain);
-                Ok(Some(len))
-            }
-            _ => self.answer_line_apart::<RETURNS, D>(bytes, number, buffer, kernel, drain),
+        // The bytes of a write: one buffer for all lines.
+        let mut buffer = [0; MOST_BYTES];
+        let mut rest = piece;
+        'lines: while drain.has_space() {
+            let Some(len) = self.answer_line::<RETURNS, D>(rest, &mut buffer, kernel, drain) else {
+                return rest;
+            };
+            rest = &rest[len..];
         }
+        rest
     }
 
-    /// Does what [`Run::answer_line`] does, for a line whose tenant was read and whose answer is not written in the drain's
-    /// buffer.
-    #[cold]
-    #[inline(never)]
-    fn answer_line_apart<const RETURNS: bool, D: Drain>(
+    /// Runs and answers the line at the front of these bytes and returns its length, including the line end. Returns `None` and
+    /// does nothing if the line is not a quick request of an existing, shown tenant.
+    #[inline(always)]
+    fn answer_line<const RETURNS: bool, D: Drain>(
         &mut self,
         bytes: &[u8],
-        number: Number,
         buffer: &mut [u8; MOST_BYTES],
         kernel: &mut Kernel,
         drain: &mut D,
-    ) -> Result<Option<usize>, Stopped>
-        requires size { WINDOW ≤ length bytes.now }
-        requires names { NamesTenant bytes.now number }
+    ) -> Option<usize>
         requires ready { IsReady (D.has_failed drain.old) self.old (length bytes.now) }
-        ensures done { HasDoneFront (answers N.noting) (self.old, kernel.old) bytes.now
-            (D.contents drain.old) (D.contents drain.new) result (self.new, kernel.new) }
-        ensures left { self.new.lines ≤ self.old.lines + 1 }
-        ensures failed { D.has_failed drain.new ≡ is_err result }
+        requires space { D.is_roomy drain.old ≡ true }
+        ensures { HasAnsweredLine N.noting bytes.now kernel.old kernel.new (D.contents drain.old) (D.contents drain.new)
+            (D.has_failed drain.new) self.old self.new result }
     {
-        let Some(line) = read_known_request::<RETURNS>(bytes, number, buffer) else {
-            return Ok(None);
-        };
-        let len = line.len;
-        self.answer_apart(line.tenant, line.request, kernel, drain)?;
-        Ok(Some(len))
+        let number = read_tenant(bytes)?;
+        let tenant = kernel.tenant(number.value)?;
+        if !self.replies.is_shown(Addressee::Tenant(tenant)) {
+            return None;
+        }
+        let line = read_known_request::<RETURNS>(bytes, number, buffer)?;
+        self.answer_request::<RETURNS, D>(tenant, line.request, kernel, drain);
+        Some(line.len)
     }
 
     /// Runs a request of an existing, shown tenant, counts its line, and writes the answer straight into the drain's buffer.

@@ -20,7 +20,6 @@
 mod answer_line;
 mod answering;
 mod engine;
-mod front;
 mod notes;
 mod pending;
 mod quick;
@@ -31,7 +30,6 @@ mod sink;
 
 pub use answering::reply_in_rows;
 pub use engine::{EndFailed, do_lines};
-pub use front::{QuickSink, do_front};
 pub use notes::{NoNotes, Notes};
 pub use pending::Pending;
 pub use replaying::{replay, replay_noted};

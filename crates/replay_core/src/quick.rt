@@ -1,23 +1,26 @@
 //! Runs quick lines one after another, whether or not they are answered in the drain's buffer.
 
 ghost use Rattle.std.specs.Prelude.{◌≡◌, ◌+◌, ◌^◌, ◌<◌, ◌≤◌, [], Some, Ok, length, is_err, IfOk, IfSome, MatchResult};
+ghost use Rattle.quick_core.specs.Lines.{ReadsAs};
 ghost use Rattle.words_core.specs.Grammar.{reading_of};
 ghost use Rattle.words_core.specs.Requests.{command_of, IsAskable};
 ghost use Rattle.words_core.specs.declared.event.Event.TheVariants.{Tenant};
 ghost use Rattle.replay_core.specs.Doing.{HasDone, HasGone, HasStopped};
 ghost use Rattle.replay_core.specs.Standing.{IsReady, AnswersRead, answers};
 
-use crate::front::{QuickSink, do_front};
 use crate::notes::Notes;
 use crate::run::Run;
 use kernel_core::Kernel;
 use model_core::limits::MOST_BYTES;
-use quick_core::{CR_LF, LF, RequestLine, WINDOW, read_ended_request};
+use quick_core::{
+    CR_LF, LF, RequestLine, WINDOW, read_ended_request, read_known_request, read_tenant,
+};
 use streams::{Drain, Stopped, line_end};
 use words_core::{Addressee, Answer, Refusal, Request};
 
 impl<N: Notes> Run<N> {
-    /// Runs the quick lines at the front of a piece and returns the rest of it. The lines end in LF, or in CR LF if `RETURNS`.
+    /// Runs the quick lines at the front of a piece, both those that are answered in the drain's buffer and those between them
+    /// that are not. Returns the rest of the piece.
     pub fn run_ended_lines<'a, const RETURNS: bool, D: Drain>(
         &mut self,
         piece: &'a [u8],
@@ -33,17 +36,47 @@ impl<N: Notes> Run<N> {
         ensures left { IfOk result (λ rest. self.new.lines + length rest.now ≤ self.old.lines + length piece.now) }
         ensures failed { D.has_failed drain.new ≡ is_err result }
     {
-        let rest = do_front::<RETURNS, Self, D>(self, piece, kernel, drain)?;
-        // For the proof: the count of lines fits its type.
-        let _lines = self.lines;
+        // The bytes of a write: one buffer for all lines.
+        let mut buffer = [0; MOST_BYTES];
+        let mut rest = self.run_in_place::<RETURNS, D>(piece, kernel, drain);
+        'lines: while let Some(line) = self.read_left::<RETURNS, D>(
+            rest,
+            &mut buffer,
+            kernel,
+            drain,
+        ) {
+            let len = line.len;
+            self.answer_apart(line.tenant, line.request, kernel, drain)?;
+            rest = self.run_in_place::<RETURNS, D>(&rest[len..], kernel, drain);
+        }
         if rest.len() < WINDOW {
             return self.run_last_lines(rest, kernel, drain);
         }
         Ok(rest)
     }
 
-    /// Runs the quick lines at the front of the last bytes of a piece and returns the rest. No beginning of a line may be
-    /// pending.
+    /// Reads the first line that [`Run::run_in_place`] left, if it is a quick line. A line that `run_in_place` has tried to read
+    /// is not read again.
+    #[inline(always)]
+    fn read_left<'a, const RETURNS: bool, D: Drain>(
+        &self,
+        bytes: &[u8],
+        buffer: &'a mut [u8; MOST_BYTES],
+        kernel: &Kernel,
+        drain: &D,
+    ) -> Option<RequestLine<'a>>
+        ensures reads { IfSome result (λ line. ReadsAs bytes.now line.tenant (command_of line.request) line.len) }
+        ensures askable { IfSome result (λ line. IsAskable line.request) }
+    {
+        let number = read_tenant(bytes)?;
+        match kernel.tenant(number.value) {
+            Some(t) if self.replies.is_shown(Addressee::Tenant(t)) && drain.has_space() => None,
+            _ => read_known_request::<RETURNS>(bytes, number, buffer),
+        }
+    }
+
+    /// Runs the quick lines at the front of the last bytes of a piece and returns the rest of these bytes. No beginning of a line
+    /// may be pending.
     #[cold]
     #[inline(never)]
     pub fn run_last_lines<'a, D: Drain>(
@@ -104,34 +137,8 @@ impl<N: Notes> Run<N> {
     }
 }
 
-impl<N: Notes> QuickSink for Run<N> {
-    ghost use Rattle.std.specs.Prelude.{◌-◌};
-
-    ghost does = { answers N.noting };
-
-    ghost lines_left = { λ run. 2 ^ 64 - 1 - run.lines };
-
-    #[inline(always)]
-    fn quick_line<D: Drain>(
-        &mut self,
-        bytes: &[u8],
-        returns: bool,
-        buffer: &mut [u8; MOST_BYTES],
-        kernel: &mut Kernel,
-        drain: &mut D,
-    ) -> Result<Option<usize>, Stopped> {
-        // For the proof: the count of lines fits its type.
-        let _lines = self.lines;
-        if returns {
-            self.answer_line::<CR_LF, D>(bytes, buffer, kernel, drain)
-        } else {
-            self.answer_line::<LF, D>(bytes, buffer, kernel, drain)
-        }
-    }
-}
-
-/// Reads a single line, without its line feed, as a quick request. Returns `None` if it has `WINDOW` bytes or more, or if it is
-/// not known for sure to be a quick request.
+/// Reads a single line, without its line feed, as a quick request. Returns `None` if the line has `WINDOW` bytes or more, or is
+/// not recognized as a quick request.
 fn read_alone<'a>(line: &[u8], buffer: &'a mut [u8; MOST_BYTES]) -> Option<RequestLine<'a>>
     ensures reads { IfSome result (λ read. reading_of line.now ≡ Ok (Some (Tenant read.tenant (command_of read.request)))) }
     ensures askable { IfSome result (λ read. IsAskable read.request) }
