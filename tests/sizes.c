@@ -1,6 +1,6 @@
-/* Boots machines of each order with each number of superblocks, with each number of tenants, and with every tenth number of
- * superblocks together with every third number of tenants. Sizes outside the ranges have to be refused. Checks what each machine
- * reports about itself, and that a call writes no byte that it may not write. partmem_end has to leave zeroes in the
+/* For each order, boots machines with each number of superblocks, then with each number of tenants, then with every tenth number
+ * of superblocks combined with every third number of tenants. Sizes outside the ranges have to be refused. Checks what each
+ * machine reports about itself, and that a call writes no byte that it may not write. partmem_end has to leave zeroes in the
  * partmem_machine. Also refuses each allocation of two boots in turn, so it is linked with library_memory.c. */
 #include <stdbool.h>
 #include <stdio.h>
