@@ -21,7 +21,7 @@ line_is_simple_and_free : is_simple_and_free check_command_line ≡ true
 unfolding clap_on_literals
 line_is_simple_and_free = refl
 
--- if a command equals the command line of `partcheck`, the rows of its matches are those that clap's model gives
+-- if an App is the one of `partcheck` (`check_command_line`), the rows of its matches are those that clap's model gives
 pub check_rows : {P : Type 0} (a : App) (f : Found) (words : List Text) → a ≡ check_command_line
     → (is_simple a ≡ true → (rows_of f ≡ matches_of a words) × P) → rows_of f ≡ matches_of check_command_line words
 check_rows a f words same found = rows_as check_command_line a f words line_is_simple same found
@@ -36,7 +36,7 @@ pub check_refused : (a : App) (words : List Text) (outcome : Outcome) → a ≡ 
 unfolding check_faults
 check_refused a words outcome same refused = refused_as check_command_line a words outcome line_is_simple_and_free same refused
 
--- if a command equals the command line of `partcheck`, it takes all words that clap's model takes
+-- if an App is the one of `partcheck`, it takes all words that clap's model takes for `partcheck`
 pub check_taken : (a : App) (words : List Text) → a ≡ check_command_line → IsCheckInOrder words → takes a words ≡ true
 unfolding IsCheckInOrder
 check_taken a words same taken = subst (λ b. takes b words ≡ true) (sym same) taken
@@ -77,7 +77,7 @@ pub sizes_given : (f : Found) (rows : List Row) (s : Settings) → rows_of f ≡
 sizes_given f rows s same asks none =
     none s.config (asks_sizes (λ name. one_of name rows) (one_text f) s.config (λ name. sym (one_text-of_rows f rows same name)) asks.sizes) s.bootable
 
--- if the rows have a value for the argument of a file, its path is refused only if memory runs out
+-- if the rows have a value for the argument that names a file, only a lack of memory can leave the file without a path
 file_given : (f : Found) (rows : List Row) (name path : Text) (outcome : Outcome) → rows_of f ≡ rows → first_of name rows ≡ Some path
     → IsNoFile (first_value f name) outcome → outcome ≡ Outcome.NoMemory
 file_given f rows name path outcome same named none =

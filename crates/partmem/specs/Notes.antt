@@ -20,7 +20,8 @@ abbrev pub with_unended : {N : Type 0} → Noting N → List (List ℕ) → List
 with_unended noting lines tail notes = noted_fault noting (suc (length lines)) (take 256 tail) (reading_of tail) notes
 
 -- `notes'` are the notes after a run with this outcome: `notes`, and then the notes of the `count` lines that were run.
--- If reading the trace failed, an unfinished line that is faulty is noted too.
+-- If reading the trace failed, an unfinished line that is faulty is noted too. Such a run has the outcome `Unreadable`, or
+-- `Unwritable` if a send had failed before.
 abbrev pub HasNoted : {N : Type 0} → Noting N → MachineOptions → Outcome → ℕ → Bool → List ℕ → N → N → Type 0
 HasNoted noting m Outcome.Done count ended given notes notes' = notes' ≡ with_notes noting m (lines_of_trace given) notes
 HasNoted noting m Outcome.Unreadable count ended given notes notes' = (tail : List ℕ) × (given ≡ with_line_feeds (ended_lines given) ++ tail)
