@@ -27,8 +27,8 @@ abbrev pub IsAlone : Option ℕ → Option ℕ → Bool → Type 0
 IsAlone None only tally = Unit {0}
 IsAlone (Some t) only tally = (only ≡ None) × (tally ≡ false)
 
--- The settings are those given under the arguments' names. `read` gives the texts of options, and `whole` gives the text of FILE.
--- If `--own` is given, it names a tenant of the machine, and `--only` and `--tally` are not given.
+-- The settings have the values of a command line: `read` returns the text of an option by the option's name, and `whole` returns
+-- the text of FILE. If `--own` is given, it names a tenant of the machine, and `--only` and `--tally` are not given.
 pub record Asks (read whole : Text → Option Text) (settings : Settings) : Type 0 where
   pub machine : AsksMachine read (machine_of settings)
   pub own : MayWrite (read (codes "own")) settings.own
@@ -54,7 +54,7 @@ IsRequestedBy words settings = Asks (λ name. one_of name (matches_of command_li
 unfoldable pub IsInOrder : List Text → Type 0
 IsInOrder words = takes command_line words ≡ true
 
--- these words request the settings, and `--own` is not given beside `--only` or `--tally`
+-- these words request the settings, and if the settings have `--own`, the words have neither `--only` nor `--tally`
 pub record CanBeHad (words : List Text) (settings : Settings) : Type 0 where
   pub asked : IsRequestedBy words settings
   pub own_alone : (flag : Bool) → IsFlag (one_of (codes "tally") (matches_of command_line words)) flag → IsAlone settings.own settings.only flag

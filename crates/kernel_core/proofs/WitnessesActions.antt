@@ -1,5 +1,5 @@
 -- Instances of the laws of worlds, of stores and of actions, for two lists of actions. In the list `alone`, only tenant 0 acts.
--- It gets a superblock, allocates a frame, stores 100 bytes there, which is more than one write can have, and loads and reads the
+-- It gets a superblock, allocates a frame, stores 100 bytes there (the command `write` has at most 64), and loads and reads the
 -- last of these bytes. In the list `beside`, tenant 0 does the same. Before that, tenant 1 gets a superblock, allocates a frame
 -- and stores its own bytes. Tenant 1 stores once more before tenant 0 loads.
 use Rattle.std.proofs.Common.{◌≡◌, ℕ, List, [], ◌∷◌, Some, None, refl, ◌∙◌, arith, length, ◌<◌, position, is_none}

@@ -144,8 +144,8 @@ taken_place order Operation.Grant m = None
 taken_place order (Operation.TakeBack slot) m = None
 taken_place order Operation.Reset m = None
 
--- The block of the slab that the cache makes for a take, or None if it makes no slab. It makes a slab if none of its slabs is
--- partial or empty, and a block is found when empty slabs are freed on demand.
+-- The block of the new slab if a take from the cache makes one, and None otherwise. The take makes a slab if the cache has no
+-- partial and no empty slab, and a block can be found. If no block is free, empty slabs are freed to find one.
 abbrev pub block_of_growth : ℕ → Machine → Cache → Option Block
 block_of_growth order m c =
     if is_some (slab_to_use (find is_partial c.slabs) (find is_empty c.slabs)) then None

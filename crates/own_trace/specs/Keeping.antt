@@ -43,6 +43,7 @@ pub record KeepsLine (t : ℕ) (line : List ℕ) (before after : KernelContent) 
   pub shows : (w : World) → Shows before w → Shows after (world_after cache_limit before.order w (event_in (reading_of line)))
   pub kept : (w : World) → Shows before w → own_text t cache_limit before.order (line ∷ []) w ≡ text
 
--- the effect of a line: the drain took the part `taken` of its text in the own list, and did not take the part `rest`
+-- A line was run. Of the text that it adds to the tenant's own list, the drain took the first part, `taken`, and did not take the
+-- rest, `rest`.
 abbrev pub keeps : OwnLines × KernelContent → List ℕ → List ℕ → List ℕ → OwnLines × KernelContent → Type 0
 keeps s line taken rest s' = (s'.0.tenant ≡ s.0.tenant) × KeepsLine s.0.tenant line s.1 s'.1 (taken ++ rest)

@@ -134,7 +134,7 @@ impl Sink for OwnLines {
         self.keep_event(line, event, is_refusal(answer), drain)
     }
 
-    // Not inlined: a function clears its stack frame on entry, and a reply of several lines takes 1.5 KB of it.
+    // Not inlined: only a reply of several lines needs 1.5 KB of stack, and a function clears its whole stack frame on entry.
     #[cold]
     #[inline(never)]
     fn replied<D: Drain>(

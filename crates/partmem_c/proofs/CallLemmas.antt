@@ -18,8 +18,8 @@ use Rattle.replay_core.proofs.LineLemmas.{lines_cut}
 use Rattle.partmem_c.specs.Lines.{AnswersLine}
 use Rattle.partmem_c.specs.Laws.{Call, lines_of_calls, texts_of, Ran, OwnLinesOfCalls, SameLinesOfCalls, StandsAfterCalls}
 
--- A line with this reading leads from kernel k, which shows world w, to kernel k'. Then k' shows the world after the line's
--- event, or w if the line has no event, and `text` is what is shown for the line in w.
+-- What holds if a line with this reading leads from kernel k, which shows world w, to kernel k': then k' shows the world after
+-- the line's event, or w if the line has no event, and `text` is what is shown for the line in w.
 record Follows (k k' : KernelContent) (reading : Result (Option Event) LineFault) (text : List ℕ) (w : World) : Type 0 where
   pub order : k'.order ≡ k.order
   pub shows : Shows k' (world_after cache_limit k.order w (event_in reading))
@@ -43,8 +43,8 @@ follows k k' (Err fault) text w did shows = record {
   shown = did.1;
 }
 
--- A list of calls leads from kernel k, which shows world w, to kernel k'. Then k' shows the world after the events of the lines,
--- and the texts of the calls are what is shown for the lines, from world w on.
+-- What holds if a list of calls leads from kernel k, which shows world w, to kernel k': then k' shows the world after the events
+-- of the calls' lines, and the texts of the calls are what is shown for these lines, from world w on.
 record AllFollow (k k' : KernelContent) (calls : List Call) (w : World) : Type 0 where
   pub shows : Shows k' (world_after cache_limit k.order w (events_of (lines_of_calls calls)))
   pub shown : texts_of calls ≡ shown_lines None cache_limit k.order (lines_of_calls calls) w

@@ -96,7 +96,7 @@ module _ {limit : ℕ} (order : ℕ) (s : State) (m : Machine) (w : IsWellFormed
   byte_is : (p byte : ℕ) → in_range p ≡ true → bytes p ≡ Some byte → slice_index new (p - place) ≡ byte
   byte_is p byte e there = let r = bounds p e in let both : Some (slice_index new (p - place)) ≡ Some byte = sym (inside p r.0 r.1) ∙ there in cc
 
-  -- after the range is read or written, its holder may have, at each place of the range, the byte that was read or written there
+  -- the byte that was read from a place of the range, or written to it, is one that the range's holder may have there afterwards
   own : (p fresh byte : ℕ) (other : Holder) → holder ≡ other → slice_index new (p - place) ≡ byte → may_be other fresh (Some (told_cell p)) byte ≡ true
   own p fresh byte other same is = ap (λ b. if b then (eqb byte (slice_index new (p - place)) || (not true && eqb byte fresh)) else eqb byte fresh)
       (ap (λ x. is_same x other) same ∙ is_same_refl other) ∙ or_left (eqb byte (slice_index new (p - place))) _ (eq-eqb byte (slice_index new (p - place)) (sym is))

@@ -147,8 +147,8 @@ module _ (limit order : ℕ) (w : World) (states : List State) (h : MeetsWorld l
       go None is = stranger limit order w states h (On.Tenant t command) (record { addressee = To.Nobody; body = Say.Refused Refusal.NoTenant }) t refl is refl refl
       go (Some m) is = command_done limit order w states h t m is command (λ s met. command_kept limit order command m s le (h.formed t m is) met) (command_formed limit order command m can (h.formed t m is))
 
--- If k is true of world w, k is `now` with the states of k. So `IsKeptIn` is true for k if it is true for each `now` that is true
--- of w.
+-- What is known and true of world w is `now` of w and some states. So `IsKeptIn` holds for it if `IsKeptIn` holds for `now` of w
+-- and all states with which `now` is true of w.
 known_now : (limit order : ℕ) (event : Event) (k : Known) (w : World) (step : WorldStep)
     → ((states : List State) → MeetsWorld limit order (now limit order w states) w → IsKeptIn limit order event (now limit order w states) step) → MeetsWorld limit order k w → IsKeptIn limit order event k step
 known_now limit order event k w step f h = subst (λ x. IsKeptIn limit order event x step) (sym h.known) (f k.states (subst (λ x. MeetsWorld limit order x w) h.known h))

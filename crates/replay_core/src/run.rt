@@ -99,7 +99,7 @@ impl<N: Notes> Sink for Run<N> {
             .show_to(addressee, answer, drain, &mut self.notes)
     }
 
-    // Not inlined: a function clears its stack frame on entry, and only a reply of several lines takes 1.5 KB of it.
+    // Not inlined: only a reply of several lines needs 1.5 KB of stack, and a function clears its whole stack frame on entry.
     #[cold]
     #[inline(never)]
     fn replied<D: Drain>(

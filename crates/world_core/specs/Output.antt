@@ -70,7 +70,8 @@ line_feed = 10
 abbrev pub with_line_feeds : List (List ℕ) → List ℕ
 with_line_feeds lines = concat (map (λ line. line ++ line_feed ∷ []) lines)
 
--- The lines, with byte b in front of the first line. If there is no line, no LF follows b in the trace, so b is dropped.
+-- The ended lines of a trace that begins with byte b, if `lines` are those of the rest. If the rest has no LF, b is in no ended
+-- line.
 abbrev pub onto_ended : ℕ → List (List ℕ) → List (List ℕ)
 onto_ended b [] = []
 onto_ended b (line ∷ lines) = (b ∷ line) ∷ lines
