@@ -1,12 +1,12 @@
 -- What is known before an insertion or a removal writes to the tables, and what follows for the new tables.
-use Rattle.std.proofs.Common.{◌≡◌, ℕ, ◌+◌, ◌-◌, ◌%◌, ◌^◌, ◌<◌, ◌≤◌, List, [], Option, Some, None, ◌++◌, take, length, get_or, set, refl, ap, ap₂, sym, ◌∙◌, subst, inl, inr, arith}
+use Rattle.std.proofs.Common.{◌≡◌, ℕ, ◌+◌, ◌-◌, ◌^◌, ◌<◌, ◌≤◌, List, [], Option, Some, None, ◌++◌, take, length, get_or, set, refl, ap, ap₂, sym, ◌∙◌, subst, inl, inr, arith}
 use Rattle.std.specs.Prelude.{◌≢◌, MatchOption}
 use Rattle.std.proofs.Math.ListN.{get_or-map}
 use Rattle.std.proofs.Math.Seq.{take-append_seam}
 use Rattle.std.proofs.lemmas.List.{length-map, length-set, get_or_read}
 use Rattle.std.proofs.lemmas.List.Sums.{count_by-le-length}
 use Rattle.std.proofs.lemmas.Bool.{cases_eq}
-use Rattle.klist_core.specs.Places.{place_at, is_in, inserted, removed, replaced}
+use Rattle.klist_core.specs.Places.{IsLoose, place_at, is_in, inserted, removed, replaced}
 use Rattle.klist_core.specs.Links.{up, back_from, ranks, IsNearest, IsGap, IsLinked, free_node, head_at, node_at, places_of, place_in, shown}
 use Rattle.klist_core.specs.Raw.{raw_place}
 use Rattle.klist_core.specs.declared.Head.{Head}
@@ -67,7 +67,7 @@ pub record IsLinkPlace (heads : List Head) (nodes : List Node) (h k : ℕ) (t : 
   pub before : IsNearest (back_from (t.now + 1)) (ranks t.came (places_of nodes)) h (back_from (t.now + 1) (rank_in h t.now k) + 1) g.0
   pub after : IsNearest up (ranks t.came (places_of nodes)) h (up (rank_in h t.now k) + 1) g.1
 
-at_end : (heads : List Head) (nodes : List Node) (h k : ℕ) (t : IsLinked heads nodes) → h < length heads → h % 3 ≡ 0 → IsLinkPlace heads nodes h k t ((head_at heads h).last, None)
+at_end : (heads : List Head) (nodes : List Node) (h k : ℕ) (t : IsLinked heads nodes) → h < length heads → IsLoose h → IsLinkPlace heads nodes h k t ((head_at heads h).last, None)
 at_end heads nodes h k t lt loose = record {
   before = nearest_limit t.now (t.now + 1) (ranks t.came (places_of nodes)) h 0 _ _ (λ i r e. let u = ranked_before heads nodes t i h r e in (u, omega (arith, u)))
       (λ r a b e. omega (arith, by_time h t.now k loose)) (λ r a b e. omega arith) (t.downwards.begins h lt);
@@ -85,7 +85,7 @@ in_gap heads nodes h k t g fits v =
     (nearest_ranked up t.came places h _ g.1 v.by_key v.next)
 
 pub link_place : (heads : List Head) (nodes : List Node) (h k : ℕ) (t : IsLinked heads nodes) (o : Option (Option ℕ × Option ℕ)) (g : Option ℕ × Option ℕ) → h < length heads → k < 2 ^ 32
-    → MatchOption o (h % 3 ≡ 0) (λ x. IsGap (place_at (places_of nodes)) h k x) → MatchOption o (g ≡ ((head_at heads h).last, None)) (λ x. g ≡ x) → IsLinkPlace heads nodes h k t g
+    → MatchOption o (IsLoose h) (λ x. IsGap (place_at (places_of nodes)) h k x) → MatchOption o (g ≡ ((head_at heads h).last, None)) (λ x. g ≡ x) → IsLinkPlace heads nodes h k t g
 link_place heads nodes h k t None g lt fits loose is = subst (λ x. IsLinkPlace heads nodes h k t x) (sym is) (at_end heads nodes h k t lt loose)
 link_place heads nodes h k t (Some x) g lt fits gap is = subst (λ y. IsLinkPlace heads nodes h k t y) (sym is) (in_gap heads nodes h k t x fits gap)
 
@@ -105,7 +105,7 @@ pub record IsInsertion (heads : List Head) (nodes : List Node) (h n k : ℕ) (g 
 
 pub insertion_known : (heads : List Head) (nodes : List Node) (h n k : ℕ) (o : Option (Option ℕ × Option ℕ)) (g : Option ℕ × Option ℕ) → IsLinked heads nodes → h < length heads
     → n < length (places_of nodes) → k < 2 ^ 32 → place_at (places_of nodes) n ≡ None → ((i : ℕ) → place_at (places_of nodes) i ≢ Some (h, k))
-    → MatchOption o (h % 3 ≡ 0) (λ x. IsGap (place_at (places_of nodes)) h k x) → MatchOption o (g ≡ ((head_at heads h).last, None)) (λ x. g ≡ x) → IsInsertion heads nodes h n k g
+    → MatchOption o (IsLoose h) (λ x. IsGap (place_at (places_of nodes)) h k x) → MatchOption o (g ≡ ((head_at heads h).last, None)) (λ x. g ≡ x) → IsInsertion heads nodes h n k g
 insertion_known heads nodes h n k o g t in_heads within fits free fresh gap is = record {
   linked = t;
   in_heads = in_heads;

@@ -1,9 +1,9 @@
 -- The tables are still linked after an insertion, a removal or a replacement.
-use Rattle.std.proofs.Common.{◌≡◌, ℕ, ◌+◌, ◌%◌, ◌^◌, ◌<◌, ◌≤◌, List, Option, Some, None, length, set, ap, sym, ◌∙◌, subst, inl, inr, arith}
+use Rattle.std.proofs.Common.{◌≡◌, ℕ, ◌+◌, ◌^◌, ◌<◌, ◌≤◌, List, Option, Some, None, length, set, ap, sym, ◌∙◌, subst, inl, inr, arith}
 use Rattle.std.specs.Prelude.{◌≢◌, count_by}
 use Rattle.std.proofs.lemmas.Bool.{cases_eq}
 use Rattle.std.proofs.lemmas.List.{length-map}
-use Rattle.klist_core.specs.Places.{Placed, ArePlaces, place_at, is_in}
+use Rattle.klist_core.specs.Places.{Placed, ArePlaces, in_three, place_at, is_in}
 use Rattle.klist_core.specs.Links.{up, back_from, ranks, IsLeastFrom, IsNearest, IsChain, IsLinked, free_node, head_at, node_at, places_of, place_in, shown}
 use Rattle.klist_core.specs.declared.Head.{Head}
 use Rattle.klist_core.specs.declared.Node.{Node}
@@ -126,7 +126,7 @@ linked_inserted heads heads' nodes nodes' h n k time previous next m t w more in
     put = put_ranked t.came time (places_of nodes) h n k placed fresh_rank
 
     below : r < limit
-    below = elim (cases_eq (h % 3) 0) [
+    below = elim (cases_eq (in_three h) 0) [
       | inl loose ↦ omega (arith, early, by_time h time k loose)
       | inr keyed ↦ omega (arith, t.wide, by_key h time k (omega (arith, keyed)))
     ]

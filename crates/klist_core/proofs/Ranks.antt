@@ -1,20 +1,20 @@
 -- The rank of a node, by which it is linked: its key, or in a loose list the time of its insertion.
-use Rattle.std.proofs.Common.{◌≡◌, ℕ, ◌+◌, ◌-◌, ◌%◌, ◌<◌, ◌≤◌, Bool, true, false, cond, eqb, List, Option, Some, None, set, refl, ap, sym, ◌∙◌, inl, inr, arith}
+use Rattle.std.proofs.Common.{◌≡◌, ℕ, ◌+◌, ◌-◌, ◌<◌, ◌≤◌, Bool, true, false, cond, eqb, List, Option, Some, None, set, refl, ap, sym, ◌∙◌, inl, inr, arith}
 use Rattle.std.proofs.lemmas.Bool.{cases_lt, cases_eq, eq-eqb, ne_eqb}
 use Rattle.std.specs.Prelude.{◌≢◌}
-use Rattle.klist_core.specs.Places.{IsByKey, place_at}
+use Rattle.klist_core.specs.Places.{IsLoose, IsByKey, in_three, place_at}
 use Rattle.klist_core.specs.Links.{IsLeastFrom, IsNearest, IsChain, back_from, ranked, ranks}
 use Rattle.klist_core.proofs.NearestChanged.{IsPut, same_list, same_key, nearest_same}
 
 -- the rank of a node that is inserted into list h under the key k at the time `now`
 abbrev pub rank_in : ℕ → ℕ → ℕ → ℕ
-rank_in h now k = cond (eqb (h % 3) 0) now k
+rank_in h now k = cond (eqb (in_three h) 0) now k
 
-pub by_time : (h now k : ℕ) → h % 3 ≡ 0 → rank_in h now k ≡ now
-by_time h now k e = ap (λ b. cond b now k) (eq-eqb (h % 3) 0 e)
+pub by_time : (h now k : ℕ) → IsLoose h → rank_in h now k ≡ now
+by_time h now k e = ap (λ b. cond b now k) (eq-eqb (in_three h) 0 e)
 
 pub by_key : (h now k : ℕ) → IsByKey h → rank_in h now k ≡ k
-by_key h now k lt = ap (λ b. cond b now k) (ne_eqb (h % 3) 0 (λ e. omega (arith, lt)))
+by_key h now k lt = ap (λ b. cond b now k) (ne_eqb (in_three h) 0 (λ e. omega (arith, lt)))
 
 pub ranked_there : (time h k : ℕ) (o : Option (ℕ × ℕ)) → o ≡ Some (h, k) → ranked time o ≡ Some (h, rank_in h time k)
 ranked_there time h k o e = ap (ranked time) e
@@ -47,7 +47,7 @@ pub rank_below : (came : ℕ → ℕ) (now : ℕ) (places : List (Option (ℕ ×
 rank_below came now places before keyed i h r e =
     let w = unranked (came i) h r (place_at places i) e in
     let is = same_key e (ranked_there (came i) h w.0 (place_at places i) w.1) in
-    elim (cases_eq (h % 3) 0) [
+    elim (cases_eq (in_three h) 0) [
       | inl loose ↦ omega (arith, is, by_time h (came i) w.0 loose, before i)
       | inr other ↦ omega (arith, is, by_key h (came i) w.0 (omega (arith, other)), keyed i h w.0 w.1)
     ]
@@ -108,7 +108,7 @@ come_before came now time n i le lt = go (eqb i n)
 -- if no node of list h has the key k, no node of list h has the rank that a node inserted now under this key gets
 pub rank_is_new : (came : ℕ → ℕ) (now : ℕ) (places : List (Option (ℕ × ℕ))) → ((i h r : ℕ) → ranks came places i ≡ Some (h, r) → r < now) → (h k : ℕ) → ((i : ℕ) → place_at places i ≢ Some (h, k))
     → (i : ℕ) → ranks came places i ≢ Some (h, rank_in h now k)
-rank_is_new came now places below h k fresh i e = elim (cases_eq (h % 3) 0) [
+rank_is_new came now places below h k fresh i e = elim (cases_eq (in_three h) 0) [
   | inl loose ↦ omega (arith, below i h (rank_in h now k) e, by_time h now k loose)
   | inr other ↦ fresh i (key_ranked (came i) h k (place_at places i) (omega (arith, other)) (e ∙ ap (λ (r : ℕ). Some (h, r)) (by_key h now k (omega (arith, other)))))
 ]

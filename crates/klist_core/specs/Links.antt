@@ -1,7 +1,7 @@
 -- What the links of a table mean. A list can be followed in two directions, up and down the keys. The definitions are the same
 -- for both directions.
-use Rattle.std.specs.Prelude.{◌≡◌, ◌≢◌, ℕ, ◌+◌, ◌-◌, ◌%◌, ◌^◌, ◌<◌, ◌≤◌, ◌==◌, if◌then◌else◌, Option, Some, None, List, length, map, slice_index_or, count_by, MatchOption}
-use Rattle.klist_core.specs.Places.{Placed, ArePlaces, IsByKey, place_at, is_in}
+use Rattle.std.specs.Prelude.{◌≡◌, ◌≢◌, ℕ, ◌+◌, ◌-◌, ◌^◌, ◌<◌, ◌≤◌, ◌==◌, if◌then◌else◌, Option, Some, None, List, length, map, slice_index_or, count_by, MatchOption}
+use Rattle.klist_core.specs.Places.{Placed, ArePlaces, IsByKey, in_three, place_at, is_in}
 use Rattle.klist_core.specs.Raw.{raw_place}
 use Rattle.klist_core.specs.declared.Head.{Head}
 use Rattle.klist_core.specs.declared.Node.{Node}
@@ -79,7 +79,7 @@ shown heads nodes = record { heads = length heads; places = places_of nodes }
 -- the list and rank of a node with this place: a loose list ranks its nodes by a time, any other list by key
 abbrev pub ranked : ℕ → Option (ℕ × ℕ) → Option (ℕ × ℕ)
 ranked time None = None
-ranked time (Some p) = Some (p.0, if p.0 % 3 == 0 then time else p.1)
+ranked time (Some p) = Some (p.0, if in_three p.0 == 0 then time else p.1)
 
 -- the list and rank of node i of a table; `came` gives the time of each node: when it was inserted, or if it replaced another
 -- node, the time of that node

@@ -15,9 +15,18 @@ abbrev pub is_in : ℕ → Option (ℕ × ℕ) → Bool
 is_in h None = false
 is_in h (Some p) = p.0 == h
 
--- list h is linked by key: it is not one of the loose lists 0, 3, 6 ..
+-- Lists come in threes: lists 0, 1 and 2, then lists 3, 4 and 5, and so on. This is the position of list h in its three, from 0
+-- to 2.
+abbrev pub in_three : ℕ → ℕ
+in_three h = h % 3
+
+-- list h is loose: it is the first of its three
+abbrev pub IsLoose : ℕ → Type 0
+IsLoose h = in_three h ≡ 0
+
+-- list h is linked by key: it is the second or the third of its three
 abbrev pub IsByKey : ℕ → Type 0
-IsByKey h = 0 < h % 3
+IsByKey h = 0 < in_three h
 
 -- node i is in a list that is linked by key
 pub record IsPlacedByKey (places : List (Option (ℕ × ℕ))) (i : ℕ) : Type 0 where

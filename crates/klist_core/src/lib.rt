@@ -4,17 +4,17 @@
 //! list ascend, and no two of its nodes have the same key. Each node has links to the previous and the
 //! next node, and each list to its first and last node (Knuth, The Art of Computer Programming, 2.2.5).
 //!
-//! Every third list, from list 0 on, is loose. In contracts it is a list like any other, in ascending order of keys, but its
-//! nodes are linked in the order in which they were inserted, and a node that replaces another one ([`Lists::replace`]) is linked
-//! where that node was. So an insertion takes constant time with any key, but a search for the least key visits all nodes of the
-//! table.
+//! Lists come in threes: lists 0, 1 and 2, then lists 3, 4 and 5, and so on. The first list of each three is loose, and the other
+//! two are linked by key. In contracts a loose list is a list like any other, in ascending order of keys, but its nodes are linked
+//! in the order in which they were inserted, and a node that replaces another one ([`Lists::replace`]) is linked where that node
+//! was. So an insertion takes constant time with any key, but a search for the least key visits all nodes of the table.
 //!
 //! Only [`Lists::new`] allocates.
 #![tactic(auto)]
 
-ghost use Rattle.std.specs.Prelude.{◌≡◌, ◌≢◌, ℕ, ◌+◌, ◌-◌, ◌%◌, ◌^◌, ◌<◌, ◌≤◌, ◌↔◌, true, false, Some, None, length, IsTrue, IsSome, IfSome, IfOk, MatchOption, slice_get, replicate, count_by};
+ghost use Rattle.std.specs.Prelude.{◌≡◌, ◌≢◌, ℕ, ◌+◌, ◌-◌, ◌^◌, ◌<◌, ◌≤◌, ◌↔◌, true, false, Some, None, length, IsTrue, IsSome, IfSome, IfOk, MatchOption, slice_get, replicate, count_by};
 ghost use Rattle.std.specs.Option.{ForSome};
-ghost use Rattle.klist_core.specs.Places.{ArePlaces, IsByKey, IsPlacedByKey, IsEmpty, IsFirst, NoneAbove, IsNext, NoneBelow, IsPrevious, place_at, is_in, inserted, removed, replaced};
+ghost use Rattle.klist_core.specs.Places.{ArePlaces, IsLoose, IsByKey, IsPlacedByKey, IsEmpty, IsFirst, NoneAbove, IsNext, NoneBelow, IsPrevious, place_at, is_in, inserted, removed, replaced};
 ghost use Rattle.klist_core.specs.Lists.{list_of};
 ghost use Rattle.klist_core.specs.Links.{free_node, head_at, up, down, IsNearest, IsGap, IsAfter, IsFollowing, IsStart};
 ghost use Rattle.klist_core.specs.Writes.{heads_linked_after, heads_linked_before, nodes_linked_after, nodes_linked_before, heads_linked, nodes_linked, heads_unlinked, nodes_unlinked};
@@ -110,10 +110,10 @@ impl Node {
     }
 }
 
-/// Returns true if the list is loose, which is true of every third list from list 0 on.
+/// Returns true if the list is loose: it is the first list of its three.
 #[inline(always)]
 pub fn is_loose(head: u32) -> bool
-    ensures loose { IsTrue result → head % 3 ≡ 0 }
+    ensures loose { IsTrue result → IsLoose head }
     ensures by_key { result ≡ false → IsByKey head }
 {
     head % 3 == 0
@@ -296,7 +296,7 @@ impl Lists {
     #[inline(always)]
     pub fn append(&mut self, head: u32, node: u32, key: u32)
         requires head { head < self.old.heads }
-        requires loose { head % 3 ≡ 0 }
+        requires loose { IsLoose head }
         requires node { node < length self.old.places }
         requires free { place_at self.old.places node ≡ None }
         requires fresh { (i : ℕ) → place_at self.old.places i ≢ Some (head, key) }
@@ -389,7 +389,7 @@ impl Lists {
         requires node { node < length self.old.places }
         requires free { place_at self.old.places node ≡ None }
         requires fresh { (i : ℕ) → place_at self.old.places i ≢ Some (head, key) }
-        requires gap { MatchOption gap (head % 3 ≡ 0) (λ g. IsGap (place_at self.old.places) head key g) }
+        requires gap { MatchOption gap (IsLoose head) (λ g. IsGap (place_at self.old.places) head key g) }
         ensures { self.new ≡ inserted self.old head node key }
     {
         self.laws();

@@ -4,7 +4,7 @@ use Rattle.model_core.specs.declared.limits.TheConstants.{MOST_CACHES, MOST_ORDE
 use Rattle.model_core.specs.Layouts.{Layout, IsLayout, is_size, is_alignment, is_pattern}
 use Rattle.layout_core.specs.Cut.{numbers_of}
 use Rattle.layout_core.specs.Objects.{IsColour}
-use Rattle.klist_core.specs.Places.{Placed, place_at}
+use Rattle.klist_core.specs.Places.{Placed, in_three, place_at}
 use Rattle.slab_tables.specs.declared.cache.Cache.{Cache}
 use Rattle.slab_tables.specs.declared.cache.Kept.{Kept}
 use Rattle.slab_tables.specs.declared.kind.Kind.{Kind}
@@ -52,7 +52,8 @@ layout_numbers c = numbers_of c.layout
 abbrev pub kind_of : ℕ → ℕ → ℕ
 kind_of count live = if live == count then 0 else (if live == 0 then 2 else 1)
 
--- the number of a kind
+-- The number of a kind. It is also the position of the kind's list in the three lists of a cache, so the list of the full slabs is
+-- loose.
 abbrev pub kind_number : Kind → ℕ
 kind_number Kind.Full = 0
 kind_number Kind.Partial = 1
@@ -65,7 +66,7 @@ head_of t c kind = 3 * index_of_cache t c + kind
 -- A slab with the stored state `kept` has a colour of its cache's layout, and no more live objects than a slab of the cache has
 -- objects. List `head` is for slabs of the kind that this number of live objects determines.
 pub record IsListed (kept : Kept) (cache : Cache) (head : ℕ) : Type 0 where
-  pub kind : head % 3 ≡ kind_of (layout_numbers cache).count kept.live
+  pub kind : in_three head ≡ kind_of (layout_numbers cache).count kept.live
   pub few : kept.live ≤ (layout_numbers cache).count
   pub colour : IsColour cache.layout kept.colour
 

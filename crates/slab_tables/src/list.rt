@@ -2,6 +2,7 @@
 
 ghost use Rattle.std.specs.Prelude.{◌≡◌, ◌<◌, ◌/◌, ◌%◌, ◌==◌};
 ghost use Rattle.model_core.specs.declared.limits.TheConstants.{MOST_CACHES};
+ghost use Rattle.klist_core.specs.Places.{in_three};
 ghost use Rattle.slab_tables.specs.Content.{index_of_cache, head_of, kind_number};
 
 use crate::kind::Kind;
@@ -11,8 +12,9 @@ use model_core::limits::MOST_CACHES;
 /// A list with all slabs of one kind in a cache. The list of the full slabs has the number `3 * (32 * tenant + cache)`. The list
 /// of the partial slabs has the next number, and the list of the empty slabs has the number after that.
 ///
-/// Lists whose numbers are multiples of 3 are loose: they are not linked in the order of their keys ([`klist_core`]). The full
-/// slabs have a loose list, because slabs fill up often and no call needs the first full slab.
+/// So a cache has one of the threes of lists of [`klist_core`], and the list of its full slabs is loose: it is not linked in the
+/// order of its keys. That is enough for the full slabs, because no call needs the first full slab, and it is fast, because slabs
+/// fill up often.
 #[derive(Clone, Copy, Debug, PartialEq, Eq)]
 pub struct ListId {
     pub number: u32,
@@ -50,7 +52,7 @@ impl ListId {
 
     /// Returns the kind of the list's slabs.
     pub fn kind(self) -> Kind
-        ensures { kind_number result ≡ self.number % 3 }
+        ensures { kind_number result ≡ in_three self.number }
     {
         match self.number % 3 {
             0 => Kind::Full,
