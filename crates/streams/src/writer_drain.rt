@@ -69,6 +69,7 @@ impl<W: Write> WriterDrain<W> {
         // If it succeeds, the writer has all bytes that the drain took.
         ensures written { OnOk result (Keeps (⟦<WriterDrain<W> as Drain>⟧.contents self.old) (W.contents self.new.writer)) }
         ensures empty { OnOk result (⟦<WriterDrain<W> as Drain>⟧.held_back self.new ≡ []) }
+        ensures flushed { OnOk result (self.new.unsent ≡ false) }
         ensures failed { ⟦<WriterDrain<W> as Drain>⟧.has_failed self.new ≡ is_err result }
         ensures stopped { ⟦<WriterDrain<W> as Drain>⟧.has_failed_to_send self.old ≡ true
             → (is_err result ≡ true) × (⟦<WriterDrain<W> as Drain>⟧.held_back self.new ≡ ⟦<WriterDrain<W> as Drain>⟧.held_back self.old) }
@@ -107,6 +108,8 @@ impl<W: Write> WriterDrain<W> {
         requires some { 0 < length bytes.now }
         requires fine { ⟦<WriterDrain<W> as Drain>⟧.has_failed self.old ≡ false }
         ensures count { IfOk result (λ n. (0 < n) × (n ≤ length bytes.now)) }
+        // `unsent` is false afterwards only if it was false before and the writer took no byte.
+        ensures unsent { self.new.unsent ≡ false → (self.old.unsent ≡ false) × Keeps (W.contents self.old.writer) (W.contents self.new.writer) }
         ensures bytes { WriteAppends (⟦<WriterDrain<W> as Drain>⟧.contents self.old) (⟦<WriterDrain<W> as Drain>⟧.contents self.new) result bytes.now }
         ensures failed { ⟦<WriterDrain<W> as Drain>⟧.has_failed self.new ≡ is_err result }
         ensures stopped { ⟦<WriterDrain<W> as Drain>⟧.has_failed_to_send self.old ≡ true
@@ -130,6 +133,7 @@ impl<W: Write> WriterDrain<W> {
         requires empty { held_bytes self.old.held ≡ [] }
         requires fine { ⟦<WriterDrain<W> as Drain>⟧.has_failed self.old ≡ false }
         ensures count { IfOk result (λ n. (0 < n) × (n ≤ length bytes.now)) }
+        ensures unsent { self.new.unsent ≡ false → (self.old.unsent ≡ false) × Keeps (W.contents self.old.writer) (W.contents self.new.writer) }
         ensures bytes { WriteAppends (⟦<WriterDrain<W> as Drain>⟧.contents self.old) (⟦<WriterDrain<W> as Drain>⟧.contents self.new) result bytes.now }
         ensures failed { ⟦<WriterDrain<W> as Drain>⟧.has_failed self.new ≡ is_err result }
         ensures sends { ⟦<WriterDrain<W> as Drain>⟧.has_failed_to_send self.new ≡ ⟦<WriterDrain<W> as Drain>⟧.has_failed_to_send self.old }
@@ -150,6 +154,7 @@ impl<W: Write> WriterDrain<W> {
     fn send_held(&mut self) -> Result<(), Stopped>
         ensures bytes { Keeps (⟦<WriterDrain<W> as Drain>⟧.contents self.old) (⟦<WriterDrain<W> as Drain>⟧.contents self.new) }
         ensures empty { OnOk result (⟦<WriterDrain<W> as Drain>⟧.held_back self.new ≡ []) }
+        ensures flushed { OnOk result (self.new.unsent ≡ false) }
         ensures failed { ⟦<WriterDrain<W> as Drain>⟧.has_failed self.new ≡ ⟦<WriterDrain<W> as Drain>⟧.has_failed self.old }
     {
         self.write_held()?;
@@ -164,6 +169,7 @@ impl<W: Write> WriterDrain<W> {
     fn write_held(&mut self) -> Result<(), Stopped>
         ensures bytes { Keeps (⟦<WriterDrain<W> as Drain>⟧.contents self.old) (⟦<WriterDrain<W> as Drain>⟧.contents self.new) }
         ensures empty { OnOk result (held_bytes self.new.held ≡ []) }
+        ensures unsent { self.new.unsent ≡ false → (self.old.unsent ≡ false) × Keeps (W.contents self.old.writer) (W.contents self.new.writer) }
         ensures failed { ⟦<WriterDrain<W> as Drain>⟧.has_failed self.new ≡ ⟦<WriterDrain<W> as Drain>⟧.has_failed self.old }
         ensures sends { ⟦<WriterDrain<W> as Drain>⟧.has_failed_to_send self.new ≡ ⟦<WriterDrain<W> as Drain>⟧.has_failed_to_send self.old }
     {
@@ -230,6 +236,8 @@ impl<W: Write> Drain for WriterDrain<W> {
         // If nothing has failed, the writer has all bytes that the drain took.
         ensures sent { ⟦<WriterDrain<W> as Drain>⟧.has_failed self.old ≡ false → ⟦<WriterDrain<W> as Drain>⟧.has_failed_to_send self.new ≡ false
             → ⟦<WriterDrain<W> as Drain>⟧.held_back self.new ≡ [] }
+        ensures flushed { ⟦<WriterDrain<W> as Drain>⟧.has_failed self.old ≡ false → ⟦<WriterDrain<W> as Drain>⟧.has_failed_to_send self.new ≡ false
+            → self.new.unsent ≡ false }
     {
         if !self.failed && !self.send_failed {
             self.send_failed = self.send_held().is_err();
