@@ -9,21 +9,21 @@
  * It then replaces each function that lends bytes, ends their lifetime or uses RAM by one of its own. Without these options it
  * only includes partmem_heap.h.
  *
- * SEEN, at the load or store, with the line of the program:
- * - past the last byte of an object, a page block or a piece of a heap, up to the next one that is lent. A piece of a heap ends
- *   after the bytes that were requested, and partmem_heap_usable_size returns that number.
- * - after a give, free, take-back, move, reset or end, in what was lent before. After a move also at the new address, until the
- *   bytes are lent again.
- * - at an address of RAM that no call has returned: free frames, the record of which objects are live. So the program's own loads
- *   and stores through partmem_superblock_address, for example for a dump, are reported.
+ * SEEN. These loads and stores are reported when they happen, with their line in the source:
+ * - past the last byte of an object, a page block or a piece of a heap, up to the next lent byte. A piece of a heap ends after
+ *   the bytes that were requested, and partmem_heap_usable_size returns that number.
+ * - in bytes that are no longer lent after a give, free, take-back, move, reset or end. After a move also at the new address,
+ *   until the bytes are lent again.
+ * - in RAM at an address that no call has returned, such as free frames, and the bits that say which objects are live. So the
+ *   program's own loads and stores through partmem_superblock_address, for example for a dump, are reported.
  *
  * LEAKS. If the environment has PARTMEM_LEAKS, with any value, and something is still live, partmem_end prints it on standard
  * error (at most 100 lines, and how many blocks and objects there are), and then calls abort.
  *
- * NOT SEEN: a load or store in bytes that are lent to somebody else, by a stale address in bytes that were lent again, or by a
- * device; with AddressSanitizer, also by code that is not compiled for it, except functions such as memcpy. Breaches of duty 6
- * (flows) are not seen either. After the end of a machine in memory of the caller's, all of that memory may be used. A machine's
- * tables are not watched.
+ * NOT SEEN: a load or store in bytes that are lent to somebody else, one at a stale address whose bytes were lent again, and one
+ * of a device. AddressSanitizer does not see code either that is not compiled for it, except functions such as memcpy. Breaches
+ * of duty 6 (flows) are not seen. When a machine that was booted in the caller's memory has ended, nothing in that memory is
+ * reported any more. A machine's tables are not watched.
  *
  * ARCHIVE. AddressSanitizer checks the arguments of memcpy, memmove and memset, whoever calls them. So libpartmem_watched.a is
  * the code of libpartmem.a with three such functions of its own. valgrind sees each access of the library; its reports are off
@@ -51,7 +51,8 @@
 #include <stdlib.h>
 #include <string.h>
 
-/* A page block, an object or a piece of a heap. It begins in a superblock, whose address names its pool for valgrind. */
+/* A page block, an object or a piece of a heap, and the superblock in which it begins. For valgrind each superblock is a memory
+ * pool, which has the superblock's address as its name. */
 typedef struct partmem_watched_piece {
     unsigned char *superblock;
     unsigned char *at;
@@ -88,7 +89,7 @@ PARTMEM_INLINE void partmem_watched_forget(unsigned char *superblock, size_t byt
     __asan_unpoison_memory_region(superblock, bytes);
 }
 
-/* Returns how many bytes from an address on are lent, up to the first that is not lent, but at most `bytes`. */
+/* Returns how many bytes are lent from `at` to the first byte that is not lent, but at most `bytes`. */
 PARTMEM_INLINE size_t partmem_watched_lent(unsigned char *at, size_t bytes)
 {
     const unsigned char *end = (const unsigned char *)__asan_region_is_poisoned(at, bytes);
@@ -108,7 +109,7 @@ PARTMEM_INLINE void partmem_watched_begin(partmem_watched_piece piece, size_t ke
     __asan_unpoison_memory_region(piece.at, piece.bytes);
 }
 
-/* Marks bytes that a call has stored outside of the RAM as having values. */
+/* Tells the tool that a call has stored these bytes outside of the RAM, so they have values. */
 PARTMEM_INLINE void partmem_watched_stored(void *at, size_t bytes)
 {
     (void)at;
@@ -168,13 +169,15 @@ PARTMEM_INLINE void partmem_watched_begin(partmem_watched_piece piece, size_t ke
     (void)VALGRIND_MAKE_MEM_DEFINED(piece.at, kept);
 }
 
-/* valgrind takes bytes that were loaded together with poison for undefined. */
+/* valgrind treats bytes that were loaded together with poisoned bytes as undefined, so what a call has stored is marked as
+ * defined. */
 PARTMEM_INLINE void partmem_watched_stored(void *at, size_t bytes)
 {
     (void)VALGRIND_MAKE_MEM_DEFINED(at, bytes);
 }
 
-/* If a piece was moved, or allocated by an event, valgrind does not know it, and has nothing to forget. */
+/* valgrind does not know a piece that was moved or that an event allocated, and would report its end as a mistake of the caller.
+ * So reports are off here. */
 PARTMEM_INLINE void partmem_watched_finish(partmem_watched_piece piece)
 {
     partmem_watched_enter();
@@ -408,8 +411,8 @@ PARTMEM_INLINE partmem_status partmem_watched_event(partmem_machine *machine, co
     return status;
 }
 
-/* Returns a request with what a line may end. Its kind is 0 if the line ends nothing. The line may be faulty: after it has run,
- * only what it has really ended is poisoned. */
+/* Returns a request with the numbers of a line that may end a block, an object or slots. Its kind is 0 if the line ends nothing.
+ * The line may be faulty: after it has run, only what it has really ended is poisoned. */
 PARTMEM_INLINE partmem_request partmem_watched_read(const char *line, size_t line_len)
 {
     static const struct {
@@ -456,7 +459,7 @@ PARTMEM_INLINE partmem_status partmem_watched_line(partmem_machine *machine, con
     return status;
 }
 
-/* ---- What lends bytes, and what does neither ----------------------------------------------------------------------------- */
+/* ---- Calls that lend bytes, and calls that neither lend nor end anything ------------------------------------------------- */
 
 /* Finishes an alloc or a take: lends its bytes if it was done. */
 PARTMEM_INLINE partmem_status partmem_watched_allocated(partmem_tenant tenant, partmem_status status, const partmem_lent *lent)

@@ -1,5 +1,5 @@
--- Bit j of the orders of a block is 1 if and only if a block of order j is open in this block. All frames outside the block are
--- ignored here, as if there were none. A block is clear if all its frames pass the test `ok`.
+-- `orders ok k q` is a number for block q of order k. Its bit j is 1 if and only if the block has an open block of order j, that
+-- is a free block if the frames outside of block q are ignored. A block is clear if all its frames pass the test `ok`.
 use Rattle.std.proofs.Common.{◌≡◌, ℕ, zero, suc, ◌+◌, ◌*◌, ◌/◌, ◌^◌, ◌<◌, Bool, true, false, ◌&&◌, ◌⊎◌, inl, inr, refl, sym, ap, subst, ◌∙◌, arith, cond}
 use Rattle.std.specs.Prelude.{bit_or, nat_lt}
 use Rattle.std.specs.Int.{bit_at}

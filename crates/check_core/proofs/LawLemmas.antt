@@ -1,4 +1,4 @@
--- If the finding is kept, all replies are allowed. If it is broken, the replies before the breach are allowed, and no allowed
+-- If the finding is `Kept`, all replies are allowed. If it is `Broken`, the replies before the breach are allowed, and no allowed
 -- reply begins at the breach.
 use Rattle.std.proofs.Common.{◌≡◌, ℕ, zero, suc, ◌+◌, ◌==◌, Bool, true, false, cond, List, [], ◌∷◌, ◌++◌, map, take, Option, Some, None, Ok, Err, length, refl, sym, ap, subst, ◌∙◌, arith, append_assoc, append-nil}
 use Rattle.std.specs.Prelude.{nat_lt, if◌then◌else◌, count_by}
@@ -264,8 +264,8 @@ no_reply (Ok (Some event)) bytes w promise broken = λ reply rest after fits is 
 same_breach : (x y : Breach) → ◌≡◌ {A = Finding} (Broken x) (Broken y) → x ≡ y
 same_breach x y e = cc
 
--- The bytes `rest` are wrong for the lines `left`. The breach is at the first of these lines or, if `left` is empty, at the last
--- line before it, line `before`. The reply line of the breach is `at + 1`.
+-- The bytes `rest` are wrong for the lines `left`, which come after `before` lines of the trace and `at` lines of the replies.
+-- The breach is at line `before + 1` or, if `left` is empty, at line `before`. Its reply line is `at + 1`.
 record IsEnd (left : List (List ℕ)) (rest : List ℕ) (w : Known) (before at : ℕ) (breach : Breach) : Type 0 where
   wrong : IsWrong left rest w
   line : breach.line ≡ before + length (take 1 left)

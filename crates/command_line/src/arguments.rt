@@ -31,8 +31,9 @@ pub struct Program<'a> {
     pub unwritten: &'a str,
 }
 
-/// Returns the command of a program that needs a machine. The command has the sizes, with their ranges, and `--only`, whose help
-/// is the text `only`. The program adds its own arguments.
+/// Returns the command of a program that needs a machine. The command has the arguments `--order`, `--superblocks` and
+/// `--tenants`, each with its range, and the optional argument `--only`. The parameter `only` is the help text of `--only`. The
+/// program adds its own arguments.
 pub fn command<'a>(
     alloc: Global,
     program: Program<'a>,
@@ -47,8 +48,8 @@ pub fn command<'a>(
     )
 }
 
-/// Returns the command of a program that needs only the sizes of a machine. The command has the sizes, with their ranges. The
-/// program adds its own arguments.
+/// Returns the command of a program that needs only the sizes of a machine. The command has the arguments `--order`,
+/// `--superblocks` and `--tenants`, each with its range. The program adds its own arguments.
 pub fn sizes_command<'a>(alloc: Global, program: Program<'a>) -> Result<Command<'a>, AllocError>
     ensures { IfOk result (λ command. app_of command ≡ sizes_command program.entry.name.now) }
 {
@@ -125,7 +126,8 @@ pub(crate) fn number_written(matches: &ArgMatches<'_>, name: &str) -> Option<u32
     matches.get_one::<u32>(name)
 }
 
-/// Returns the number given under this name, or 0 if no number below 2^32 is given. No size of a machine may be 0.
+/// Returns the number given under this name, or 0 if no number below 2^32 is given. The caller refuses both alike, since no size
+/// of a machine may be 0.
 pub(crate) fn number_of(matches: &ArgMatches<'_>, name: &str) -> u32
     ensures value { 0 < result → Writes (one_text (found_of matches.now) name.now) result }
     ensures written { (n : ℕ) → Writes (one_text (found_of matches.now) name.now) n → result ≡ n }

@@ -73,7 +73,7 @@ fn are_beside(cache: &HeldCache, p: u32, q: u32) -> bool
     cache.slab_around(p).first() == cache.slab_around(q).first()
 }
 
-/// Returns whether `counts` is true and the first of these objects is at the place.
+/// Returns true if `counts` is true and the first element of `beside`, or 0 if `beside` is empty, is this place.
 fn begins_at(beside: &[u32], place: u32, counts: bool) -> bool
     ensures { result ≡ (slice_index beside.now 0 == place && counts) }
 {

@@ -1,5 +1,5 @@
--- Laws about page blocks, ranges in reach, and bytes that are read and written. One law says that the parts show at most one
--- machine for a tenant.
+-- Laws about page blocks, ranges in reach, and bytes that are read and written. One law says that the memory, the buddy systems
+-- and the tables of caches together show at most one machine for a tenant.
 use Rattle.std.specs.Prelude.{◌≡◌, ◌↔◌, ◌⊎◌, ℕ, ◌+◌, ◌*◌, ◌/◌, ◌%◌, ◌^◌, ◌<◌, ◌≤◌, true, false, List, Some, IsSome, length, filter_map, slice_index, slice_index_or}
 use Rattle.std.specs.List.{range_with_len}
 use Rattle.model_core.specs.declared.limits.TheConstants.{FRAME_BYTES, RECORD_OFFSET}
@@ -56,8 +56,8 @@ abbrev pub ReachMeets : Type 0
 ReachMeets = (r : spaces.Content) (b : buddies.Content) (s : Content) (t place len : ℕ) (m : Machine)
     → IsSteady r b s t → ShowsMachine r b s t m → (in_reach m place len ≡ true) ↔ IsInReach r b s t place len
 
--- Let a range that is not empty begin in a taken block. The range lies inside a page block if and only if this taken block is not
--- a slab and the range ends inside this block.
+-- if a range that is not empty begins in a taken block, it lies inside a page block if and only if that taken block is not a slab
+-- and the range ends inside it
 abbrev pub BlockDecides : Type 0
 BlockDecides = (r : spaces.Content) (b : buddies.Content) (s : Content) (t place len first order : ℕ)
     → IsSteady r b s t → 0 < len → buddies.taken_of (buddies.holding_of t b) first ≡ Some order → HasFrame (block first order) (place / FRAME_BYTES)

@@ -24,7 +24,8 @@ pub record LiveObject : Type 0 where
   -- its first place
   pub place : ℕ
 
--- the live objects of slab s from object i on; the list has the flags of these objects
+-- the live objects of slab s with index i or more; the list has a flag for each object of the slab from index i on, true if the
+-- object is live
 abbrev pub live_from : Cache → Slab → ℕ → List Bool → List LiveObject
 live_from c s i [] = []
 live_from c s i (live ∷ rest) =
@@ -107,8 +108,8 @@ empty_blocks c = map (slab_block c) (filter is_empty c.slabs)
 unfoldable pub reaped : Machine → Machine
 reaped m = record m { caches = map without_empty m.caches; bytes = zeroed (flat_map empty_blocks m.caches) m.bytes }
 
--- The machine that serves a request for a block of order k. If a block is found only after all empty slabs are freed, they are
--- freed. Otherwise it is machine m itself.
+-- The machine that serves a request for a block of order k: m with all empty slabs freed, if no block is found in m but one is
+-- found then, and otherwise m itself.
 unfoldable pub by_need : ℕ → ℕ → Machine → Machine
 by_need order k m = if is_some (choice order m k) || is_none (choice order (reaped m) k) then m else reaped m
 

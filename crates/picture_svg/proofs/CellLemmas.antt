@@ -1,4 +1,5 @@
--- The paths of a band's cells, with the path of one more tone or kind.
+-- Lemmas for the text of a band's cells, which has a path for each kind and tone: what is true of the paths written so far stays
+-- true when the path of one more tone, or those of one more kind, are appended.
 use Rattle.std.proofs.Common.{◌≡◌, ℕ, zero, suc, ◌+◌, ◌*◌, ◌/◌, ◌^◌, ◌<◌, Bool, true, false, List, [], ◌∷◌, ◌++◌, Option, length, get_or, take, filter, codes, ap, refl, subst, sym, ◌∙◌, append_assoc, append-nil, arith, Bor}
 use Rattle.std.proofs.lemmas.Bool.{cond-true, cond-false}
 use Rattle.std.proofs.lemmas.List.Elements.{filter_more}
@@ -25,8 +26,8 @@ pub concat_push : (texts : List (List ℕ)) (text : List ℕ) → concat texts +
 concat_push [] text = sym (append-nil text)
 concat_push (x ∷ texts) text = append_assoc x (concat texts) text ∙ ap (λ t. x ++ t) (concat_push texts text)
 
--- Let the elements before element i that pass the filter be related to `ys`, one by one. If element i passes and is related to y,
--- the elements up to element i that pass are related to `ys` with y appended.
+-- Suppose that, of the first i elements, those that pass the filter are related to `ys`, one by one. If element i passes too and
+-- is related to y, those of the first i + 1 elements that pass are related to `ys` with y appended.
 pub kept_more : {A B : Type 0} (R : A → B → Type 0) (p : A → Bool) (xs : List A) (i : ℕ) (d : A) (ys : List B) (y : B) → i < length xs
     → p (get_or xs i d) ≡ true → AllZip R (filter p (take i xs)) ys → R (get_or xs i d) y → AllZip R (filter p (take (i + 1) xs)) (ys ++ y ∷ [])
 kept_more R p xs i d ys y within passes zip here =
@@ -50,7 +51,7 @@ pub each_more : {A B : Type 0} (R : A → B → Type 0) (xs : List A) (i : ℕ) 
 each_more R xs i d ys y within zip here =
     subst (λ zs. AllZip R zs (ys ++ y ∷ [])) (sym (take_more xs i d within)) (zip_push R (take i xs) ys (get_or xs i d) y zip here)
 
--- the number of taken quarters of shade i
+-- entry i of the table of shades is for rows with this many quarters of their frames taken
 abbrev pub quarters_at : ℕ → ℕ
 quarters_at i = get_or (1 ∷ 2 ∷ 3 ∷ 4 ∷ []) i 0
 
@@ -62,8 +63,8 @@ quarters_are a b c e d (suc (suc zero)) less = refl
 quarters_are a b c e d (suc (suc (suc zero))) less = refl
 quarters_are a b c e d (suc (suc (suc (suc i)))) less = absurd (omega arith)
 
--- if a path with the class and the quarters of entry i of the table of shades was appended, it has `quarters_at i` quarters and
--- their class
+-- a path that was appended with the class and the quarters of entry i of the table of shades is the path for `quarters_at i`
+-- quarters, with the class that `shade_of` gives them
 pub tone_at : {old new : Option (List ℕ)} (columns : List (List Tone)) (rows : ℕ) (kind : FrameKind) (a b c e : Bor (List ℕ)) (d : Bor (List ℕ) × ℕ)
     (i : ℕ) → i < 4 → a.now ≡ codes " one" → b.now ≡ codes " two" → c.now ≡ codes " three" → e.now ≡ []
     → AppendsText old new (IsTonePath columns rows (record { kind = kind; quarters = (get_or ((a, 1) ∷ (b, 2) ∷ (c, 3) ∷ (e, 4) ∷ []) i d).1 })
@@ -81,7 +82,7 @@ tone_at columns rows kind a b c e d (suc (suc (suc (suc i)))) less one two three
 
 -- ---- the kinds
 
--- for a kind of taken frames, the paths of its shades are all paths of the kind
+-- a kind other than `Free` and `NotHeld` has only the paths of its shades
 pub taken_kind : (columns : List (List Tone)) (grid : Grid) (kind : FrameKind) (text : List ℕ) → (kind ≡ FrameKind.Free → ⊥) → (kind ≡ FrameKind.NotHeld → ⊥)
     → AreShadePaths columns grid kind text → AreKindPaths columns grid kind text
 taken_kind columns grid FrameKind.Free text free none paths = absurd (free refl)

@@ -46,7 +46,7 @@ fewer_left {X} p q (x ∷ xs) = go (p x) refl (q x) (fewer_left p q xs)
     go false is true e = let one : length (filter p (x ∷ filter q xs)) ≡ length (filter p (filter q xs)) = ap (λ b. length (if b then x ∷ filter p (filter q xs) else filter p (filter q xs))) is in omega (arith, one, e)
     go false is false e = e
 
--- if `x` is inserted in rising order, as many elements pass as when `x` is put in front
+-- inserting `x` in rising order gives as many elements that pass p as putting `x` in front
 put_passes : (p : ℕ → Bool) (x : ℕ) (xs : List ℕ) → length (filter p (put_rising (λ y. y) x xs)) ≡ length (filter p (x ∷ xs))
 put_passes p x [] = refl
 put_passes p x (y ∷ ys) = go (nat_lt x y) (p x) (p y) refl refl (put_passes p x ys)
@@ -101,7 +101,8 @@ frame_aligned = for_alignment (λ a. (f : ℕ) → 4096 * f % a ≡ 0) (λ f. om
 from_rest : (p origin n r : ℕ) → origin ≤ p → r ≡ 0 → n + r ≡ p - origin → p ≡ origin + n
 from_rest p origin n r low none split = omega (arith, low, none, split)
 
--- if the layout of a cache fits and no object is live, the cache has grids: a slab's first object can be at the slab's first byte
+-- a cache whose layout fits and that has no live objects has a grid in the slab at each frame: the one that begins at the slab's
+-- first byte
 pub new_gridded : (order : ℕ) (c : KnownCache) → c.live ≡ [] → IsFitted order c → IsGridded order c
 new_gridded order c empty fit = record { fitted = fit; grids = grids }
   where
@@ -231,7 +232,7 @@ module _ (order : ℕ) (h : Holdings) (c : KnownCache) (place : ℕ) (g : IsGrid
 
 -- A place for one more object
 
--- for any frame of an aligned block, the aligned block of the same order that has this frame is the block itself
+-- for each frame of an aligned block, `around` returns this block
 pub around_is : (b : Block) (x : ℕ) → b.first % 2 ^ b.order ≡ 0 → HasFrame b x → around x b.order ≡ b
 around_is b x aligned has = ap (λ f. block f b.order)
     (ap (λ n. n * 2 ^ b.order) (sym (number_is b.order x) ∙ number_of_frame b.first b.order x aligned has) ∙ first_is b.first b.order aligned)

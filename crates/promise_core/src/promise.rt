@@ -23,16 +23,17 @@ pub enum Promise {
     Objects,
     /// The objects of a new cache fit into its slabs.
     Layout,
-    /// A free reports the order of its block. A reap or a destroy frees no more frames than empty slabs could have.
+    /// A free reports the order of its block. A reap or a destroy reports a number of freed frames that can be that of empty
+    /// slabs.
     Gives,
     /// A superblock has at most one owner, and replies report the owners correctly.
     Owners,
-    /// A byte that is read is the byte that was left at its place, or a fresh byte if none was left. If the byte that was left is
-    /// in doubt, a read may return a fresh byte instead.
+    /// A read returns the byte that is known to be at its place, or a fresh byte if none is known there. If the block was freed
+    /// or the object given back since then, the byte is in doubt, and a read may return it or a fresh byte.
     Bytes,
     /// A report has the figures of the tenant's slots, page blocks and objects.
     Report,
-    /// The figures of a report stay valid until a command changes the tenant's slots, page blocks, caches or objects, or reaps.
+    /// The figures of a report stay valid until the tenant reaps, or a command changes its slots, page blocks, caches or objects.
     Still,
 }
 

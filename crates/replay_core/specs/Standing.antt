@@ -29,13 +29,13 @@ AreLines (line ∷ lines) = IsOneLine line × AreLines lines
 abbrev pub tally_of_run : {N : Type 0} → Run N → Tally
 tally_of_run run = record { lines = run.lines; events = run.events; faults = run.faults; written = run.replies.written }
 
--- the drain has not failed, and this many more lines can be counted
+-- the drain has not failed, and the count of lines stays below 2 ^ 64 after `lines` more lines
 pub record IsReady {N : Type 0} (failed : Bool) (run : Run N) (lines : ℕ) : Type 0 where
   pub fine : failed ≡ false
   pub more : run.lines + lines < 2 ^ 64
 
--- A line with this reading was run and counted. The text that it shows is `taken`, and then `rest`, which the drain did not take.
--- A faulty line is noted with its front, and a shown refusal is noted too.
+-- A line with this reading was run and counted. The text that it shows is `taken ++ rest`, of which the drain took only `taken`.
+-- If the line is faulty, its number, its fault and `front` are noted. A shown refusal is noted too.
 pub record AnswersRead {N : Type 0} (noting : Noting N) (front : List ℕ) (s : Run N × KernelContent) (reading : Result (Option Event) LineFault)
     (taken rest : List ℕ) (s' : Run N × KernelContent) : Type 0 where
   pub sizes : SameSizes s.1 s'.1
@@ -53,6 +53,7 @@ pub record AnswersRead {N : Type 0} (noting : Noting N) (front : List ℕ) (s : 
 abbrev pub answers : {N : Type 0} → Noting N → Run N × KernelContent → List ℕ → List ℕ → List ℕ → Run N × KernelContent → Type 0
 answers noting s line taken rest s' = AnswersRead noting (take 256 line) s (reading_of line) taken rest s'
 
--- the beginning of a line whose end could not be read was noted, if it is faulty
+-- `line` is the part that was read of a line whose end could not be read. If this part reads as a faulty line, the fault is
+-- noted. Nothing else in the run changes.
 abbrev pub IsUnended : {N : Type 0} → Noting N → Run N → List ℕ → Run N → Type 0
 IsUnended noting run line run' = run' ≡ record run { notes = noted_fault noting (run.lines + 1) (take 256 line) (reading_of line) run.notes }
