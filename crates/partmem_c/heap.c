@@ -1,5 +1,6 @@
-/* The heap of a tenant, over the direct calls of partmem.h. It stores its classes with their caches, and its runs, but no list of
- * its pieces: it looks up in the library what is live at a place. */
+/* The heap of a tenant, over the direct calls of partmem.h. A class is a size of objects with a cache of its own. A run is a row
+ * of superblocks for a request larger than a superblock. A piece is what the heap has allocated and not freed. The heap stores
+ * its classes with their caches, and its runs, but no list of its pieces: it looks up in the library what is live at a place. */
 #include <stdbool.h>
 #include <string.h>
 
@@ -22,7 +23,7 @@ enum {
 static const uint16_t default_sizes[] = {16,  32,  48,  64,   80,   96,   128,  176,  224,  256,  336,  448,
                                          576, 816, 1024, 1168, 1360, 1632, 2048, 2336, 2720, 3264, 3568, 4096};
 
-/* Returns the order of the smallest page block with at least this number of bytes, which are at most a superblock's. */
+/* Returns the order of the smallest page block with at least `bytes` bytes. `bytes` is at most the size of a superblock. */
 static uint32_t order_for(size_t bytes)
 {
     uint32_t order = 0;
@@ -154,8 +155,8 @@ static uint32_t superblocks_for(const partmem_heap *heap, size_t bytes)
     return (uint32_t)((bytes + superblock_bytes(heap) - 1) / superblock_bytes(heap));
 }
 
-/* Allocates superblocks until `count` of them lie in a row. Returns the first slot of the row, or NO_ROW if no superblock is left
- * before that. Marks each slot that it allocates as FOUND or ASIDE. */
+/* Allocates superblocks until `count` of them lie in a row. Returns the first slot of the row, or NO_ROW if an allocation is
+ * refused before there is such a row. Marks each slot that it allocates as FOUND or ASIDE. */
 static uint32_t find_row(partmem_heap *heap, uint32_t count)
 {
     partmem_lent block;

@@ -1,5 +1,5 @@
-/* The memory of a machine, which the caller provides. The kernel allocates only while it boots, by three functions with names of
- * the Rattle toolchain. They take the superblocks from the RAM, and all else from the tables. */
+/* The memory of a machine, which the caller provides. The kernel allocates only while it boots, through three functions whose
+ * names the Rattle toolchain sets. They take the superblocks from the RAM, and all else from the tables. */
 #include <stdbool.h>
 #include <stdint.h>
 #include <string.h>
@@ -14,7 +14,7 @@
 struct state {
     uint8_t *ram;
     uint8_t *next; /* the first free byte of the tables */
-    size_t left;   /* how many bytes are free from there on */
+    size_t left;   /* how many bytes of the tables are free */
     size_t unit;   /* how many bytes a superblock has */
     uint32_t superblocks, tenants;
     uint32_t allocated; /* how many superblocks are allocated by now */

@@ -14,9 +14,9 @@
  *     frame       4096 bytes
  *     superblock  2^order frames of RAM: order 3 to 8, superblocks 1 to 256, tenants 1 to 64. Numbered from 0 in a machine.
  *     slot        where a tenant holds a superblock. Numbered from 0 in a tenant, who cannot tell which superblock it is.
- *     place       the number of a byte of a tenant. Slot s has the places from s * (4096 << order) on. Blocks and objects are
+ *     place       the number of a byte of a tenant. The places of slot s begin with s * (4096 << order). Blocks and objects are
  *                 named by the place of their first byte. A move changes addresses, but no place.
- *     page block  2^k frames, k from 0 to order, at a place that is a multiple of its bytes
+ *     page block  2^k frames, k from 0 to order, at a place that is a multiple of its size
  *     cache       objects of one size, in slabs of the tenant's frames. Numbered from 0 in a tenant, the least free number
  *                 first. The objects of a new slab have the cache's pattern. Later an object has the bytes that it had when it
  *                 was given back.
@@ -25,8 +25,8 @@
  * LIFETIME. Lent bytes stay at their address until their block is freed, their object given back, their slot moved, their
  * tenant reset or their machine ended. No other call, of any tenant, moves, scrubs or writes them, except partmem_write, or a
  * write by partmem_event or partmem_line, to these bytes. Lending again returns the same address. A lend is not an event: it
- * changes nothing that a tenant can see, it may be done any number of times, and nothing has to be returned. So a caller keeps
- * addresses for speed, or only places, which stay through moves, and lends before each use.
+ * changes nothing that a tenant can see, it may be done any number of times, and nothing has to be returned. So a caller may keep
+ * addresses, for speed. Or it keeps only places, which a move does not change, and lends before each use.
  *
  *     partmem_machine machine = {{0}};
  *     partmem_config config = {4, 16, 8};              16 superblocks of 64 KiB, 8 tenants
@@ -71,8 +71,8 @@
  * An alloc or take that finds a block only in frames of empty slabs first zeroes all empty slabs of the tenant. A kernel that
  * cannot wait so long uses a small order, and tenants with few slots. It reaps a tenant after every 64 of the tenant's gives,
  * since only a give empties a slab; when it reaps may depend only on that tenant's calls. It reaps in the tenant's own time
- * slice. This helps only if the kernel can interrupt a call: Linux with preempt=full can; with preempt=voluntary or none other
- * programs wait.
+ * slice. This helps only if the kernel can interrupt a call: Linux with preempt=full can; with preempt=voluntary or
+ * preempt=none, other programs wait.
  *
  * PROCESSOR. x86-64-v2, with the System V calling convention. On an older processor a call may end in an illegal instruction.
  * With gcc and clang `__builtin_cpu_supports("sse4.2") && __builtin_cpu_supports("popcnt")` tests for it.
@@ -118,16 +118,16 @@ extern "C" {
 
 /* ---- Status -----------------------------------------------------------------------------------------------------------------
  *
- * A refusal answers a request: its number is that of traces, and except POOL_EMPTY it follows from what the tenant itself did,
- * its grants, take-backs and resets, and the machine's order and number of tenants. An error is a mistake of the caller, or
- * NO_MEMORY. After either, nothing has changed and all results of a direct call are zeroes, so `at` is NULL. partmem_read,
- * partmem_event and partmem_line say at their declarations what they do instead.
+ * A refusal answers a request. Its number is the same as in traces. Every refusal except POOL_EMPTY follows from what the tenant
+ * itself did, from its grants, take-backs and resets, and from the machine's order and number of tenants. An error is a mistake
+ * of the caller, or NO_MEMORY. After a refusal or an error, nothing has changed and all results of a direct call are zeroes, so
+ * `at` is NULL. partmem_read, partmem_event and partmem_line say at their declarations what they do instead.
  *
  * No number makes a call write more than its declaration says: a buffer gets the bytes that were read, at most
  * PARTMEM_MOST_BYTES, or the text of a line, at most PARTMEM_MOST_TEXT_BYTES.
  *
- * Each function lists what it returns besides DONE, and returns the first that applies. All functions with a tenant return
- * NO_MACHINE and NO_TENANT before what they list; only a wrong number of bytes in partmem_write and partmem_make_cache comes
+ * Each function lists what it returns besides DONE, and returns the first that applies. All functions with a tenant test for
+ * NO_MACHINE and then for NO_TENANT, before what they list. Only partmem_write and partmem_make_cache test the number of bytes
  * between the two. */
 typedef enum partmem_status {
     PARTMEM_DONE = 0,
@@ -136,7 +136,7 @@ typedef enum partmem_status {
     PARTMEM_NO_FRAMES = 1,      /* no free block is large enough, even if empty slabs were given back */
     PARTMEM_BAD_ORDER = 2,      /* the order is larger than a superblock's */
     PARTMEM_NOT_A_BLOCK = 3,    /* no live page block begins at the place */
-    PARTMEM_OUT_OF_REACH = 4,   /* the bytes are none, or not inside one live page block or one live object */
+    PARTMEM_OUT_OF_REACH = 4,   /* 0 bytes, or bytes that are not inside one live page block or one live object */
     PARTMEM_BAD_LENGTH = 5,     /* a read of 0 bytes, or of more than 64 */
     PARTMEM_BAD_SIZE = 6,       /* the size of an object is 0, or larger than 4096 */
     PARTMEM_BAD_ALIGN = 7,      /* the alignment is not 8, 16, 32, 64, 128 or 256 */
@@ -164,9 +164,9 @@ typedef enum partmem_status {
     PARTMEM_STATUS_BITS = 0x7fffffff /* no status: it makes the type 32 bits wide */
 } partmem_status;
 
-/* Returns the name and the meaning of a status, "NoFrames: no free block .."; a refusal's name is that of traces. Any number may
- * be passed from C. From C++ a number above 0x7fffffff may not: its conversion to the enumeration is undefined there. The text is
- * never freed. */
+/* Returns the name and the meaning of a status, for example "NoFrames: no free block .."; a refusal has the same name in traces.
+ * Any number may be passed from C. From C++ a number above 0x7fffffff may not: its conversion to the enumeration is undefined
+ * there. The text is never freed. */
 const char *partmem_strerror(partmem_status status);
 
 /* Returns the library's version, in the form of PARTMEM_VERSION. */
@@ -174,7 +174,7 @@ uint32_t partmem_version(void);
 
 /* ---- Machines and tenants ------------------------------------------------------------------------------------------------ */
 
-/* A machine, all zeroes while there is none: partmem_machine machine = {{0}}; */
+/* A variable for a machine, all zeroes while no machine is booted in it: partmem_machine machine = {{0}}; */
 typedef struct partmem_machine {
     void *held[3];
 } partmem_machine;
@@ -199,22 +199,22 @@ typedef struct partmem_config {
     uint32_t tenants;     /* 1 to 64 */
 } partmem_config;
 
-/* The memory of a machine. What it has in it before boot does not matter. For the library it may be an array of char, as above.
- * For the caller's own stores in lent bytes there is a rule of C: an array of char holds nothing but char. If the compiler relies
- * on this rule, use memory without a declared type, or compile with -fno-strict-aliasing, as kernels are. */
+/* The memory of a machine. Its contents before boot do not matter. For the library it may be an array of char, as above. For the
+ * caller's own stores in lent bytes there is a rule of C: an array of char holds nothing but char. If the compiler relies on this
+ * rule, use memory without a declared type, or compile with -fno-strict-aliasing, as kernels are. */
 typedef struct partmem_memory {
     void *ram;    /* PARTMEM_RAM_BYTES, at a multiple of 4096 */
     void *tables; /* PARTMEM_TABLE_BYTES, at a multiple of 16 */
 } partmem_memory;
 
-/* How many bytes the RAM and the tables of a machine have, of type size_t. Both are constants if the arguments are. */
+/* The sizes of a machine's RAM and tables in bytes, of type size_t. Both are constants if the arguments are. */
 #define PARTMEM_RAM_BYTES(order, superblocks) ((size_t)(superblocks) * PARTMEM_FRAME_BYTES << (order))
 #define PARTMEM_TABLE_BYTES(order, superblocks, tenants)                                                                        \
     (((size_t)4096 << (order)) + 256 + 112 * PARTMEM_POWER_OF_2(superblocks) + 288 * PARTMEM_POWER_OF_2(tenants) +              \
      (size_t)(superblocks) * (32 + ((size_t)225 << (order)) / 8) +                                                              \
      (size_t)(tenants) * (4216 + 8 * (size_t)(superblocks) + 12 * PARTMEM_GROUPS(order, superblocks)))
 
-/* Parts of PARTMEM_TABLE_BYTES: the least power of 2 from 4 on that is not less than n, and the groups of frames. */
+/* Parts of PARTMEM_TABLE_BYTES: the least power of 2 that is at least 4 and at least n, and the number of groups of frames. */
 #define PARTMEM_POWER_OF_2(n)                                                                                                   \
     ((size_t)((n) <= 4 ? 4 : (n) <= 8 ? 8 : (n) <= 16 ? 16 : (n) <= 32 ? 32 : (n) <= 64 ? 64 : (n) <= 128 ? 128 : 256))
 #define PARTMEM_GROUPS(order, superblocks)                                                                                      \
@@ -222,10 +222,10 @@ typedef struct partmem_memory {
          ? (PARTMEM_POWER_OF_2(superblocks) << ((order) > 5 ? (order) - 5 : 0))                                                 \
          : 64)
 
-/* Boots a machine in which no superblock has an owner, in memory that is the library's until partmem_end. *config and *memory
- * are read only during the call. Superblock m lies at ram + m * PARTMEM_RAM_BYTES(order, 1), and is not touched before it is
- * put under a slot. Returns HAS_MACHINE, BAD_CONFIG, BAD_MEMORY, and NO_MEMORY if PARTMEM_TABLE_BYTES is too small: it is enough
- * for each of 7671 sizes that tests boot, of the 98304 that there are. */
+/* Boots a machine in which no superblock has an owner, in memory that is the library's until partmem_end. *config and *memory are
+ * read only during the call. Superblock m lies at ram + m * PARTMEM_RAM_BYTES(order, 1), and is not touched before it is put
+ * under a slot. Returns HAS_MACHINE, BAD_CONFIG, BAD_MEMORY, and NO_MEMORY if PARTMEM_TABLE_BYTES is too small. There are 98304
+ * combinations of sizes. Tests boot 7671 of these, and it is enough for each of them. */
 PARTMEM_CHECKED partmem_status partmem_boot_in(partmem_machine *machine, const partmem_config *config,
                                                const partmem_memory *memory);
 
@@ -255,9 +255,9 @@ PARTMEM_CHECKED partmem_status partmem_grant(partmem_tenant tenant, partmem_slot
  * slab is freed, by partmem_reap, partmem_destroy_cache or on demand. Returns NO_SLOT, SLOT_BUSY. */
 PARTMEM_CHECKED partmem_status partmem_take_back(partmem_tenant tenant, uint32_t slot);
 
-/* Replaces the superblock of a slot by the first one without an owner, and copies all its bytes, if any was lent, written or in a
- * slab since the grant. The tenant is not notified; what was lent in the slot has to be lent again. Returns NO_SLOT,
- * POOL_EMPTY. */
+/* Replaces the superblock of a slot by the first superblock without an owner. Copies all bytes of the slot if any of them was
+ * lent, written or in a slab since the grant. The tenant is not notified; what was lent in the slot has to be lent again. Returns
+ * NO_SLOT, POOL_EMPTY. */
 PARTMEM_CHECKED partmem_status partmem_move(partmem_tenant tenant, uint32_t slot, partmem_slot *moved);
 
 /* Takes back all that the tenant has: page blocks, objects, caches and slots. */
@@ -308,16 +308,16 @@ typedef struct partmem_cache {
 } partmem_cache;
 
 /* Makes a cache of objects of `size` bytes, 1 to 4096, at multiples of `align`: 8, 16, 32, 64, 128 or 256. The pattern, of 1 to
- * 16 bytes, is repeated in each new object; "", 1 is zeroes. Returns NOT_AN_EVENT for a pattern of another length (before
- * NO_TENANT), BAD_SIZE, BAD_ALIGN, NO_CACHE_SLOT. */
+ * 16 bytes, is repeated in each new object; the arguments "" and 1 make it all zeroes. Returns NOT_AN_EVENT for a pattern of
+ * another length (before NO_TENANT), BAD_SIZE, BAD_ALIGN, NO_CACHE_SLOT. */
 PARTMEM_CHECKED partmem_status partmem_make_cache(partmem_tenant tenant, uint32_t size, uint32_t align, const void *pattern,
                                                   size_t pattern_bytes, partmem_cache *made);
 
 /* Destroys a cache without live objects, and frees its slabs. Returns NO_CACHE, CACHE_IN_USE. */
 PARTMEM_CHECKED partmem_status partmem_destroy_cache(partmem_tenant tenant, uint32_t cache);
 
-/* Takes an object of a cache, and lends it. Its bytes are the pattern's if it is new, else what was in it when it was given
- * back. Returns NO_CACHE, NO_FRAMES. */
+/* Takes an object of a cache, and lends it. A new object has the bytes of the pattern. Any other object has the bytes that it had
+ * when it was given back. Returns NO_CACHE, NO_FRAMES. */
 PARTMEM_CHECKED partmem_status partmem_take(partmem_tenant tenant, uint32_t cache, partmem_lent *object);
 
 /* Gives back the object that begins at the place. Returns NO_CACHE, NOT_AN_OBJECT. */
@@ -353,11 +353,11 @@ PARTMEM_INLINE void *partmem_object_at(partmem_tenant tenant, uint32_t cache, ui
     return partmem_lend_object(tenant, cache, place, &object) == PARTMEM_DONE ? object.at : NULL;
 }
 
-/* Copies out 1 to 64 bytes that partmem_lend could lend. Returns BAD_LENGTH, OUT_OF_REACH. If it is not done, it writes no byte
- * of `to`. [Proved if `to` has `bytes` bytes. For a larger `bytes`, which duty 2 forbids, it is only tested.] */
+/* Copies out 1 to 64 bytes that partmem_lend could lend. Returns BAD_LENGTH, OUT_OF_REACH. If it does not return DONE, it writes
+ * no byte of `to`. [Proved if `to` has `bytes` bytes. For a larger `bytes`, which duty 2 forbids, it is only tested.] */
 PARTMEM_CHECKED partmem_status partmem_read(partmem_tenant tenant, uint32_t place, void *to, size_t bytes);
 
-/* Copies in 1 to 64 bytes, where partmem_lend could lend them. Returns NOT_AN_EVENT for another number of bytes (before
+/* Copies 1 to 64 bytes to a place at which partmem_lend could lend them. Returns NOT_AN_EVENT for another number of bytes (before
  * NO_TENANT), OUT_OF_REACH. */
 PARTMEM_CHECKED partmem_status partmem_write(partmem_tenant tenant, uint32_t place, const void *from, size_t bytes);
 
@@ -376,7 +376,7 @@ typedef enum partmem_use {
     PARTMEM_USE_BITS = 0x7fffffff /* no use: it makes the type 32 bits wide */
 } partmem_use;
 
-/* A page block, a slab, a free frame or a whole slot that is not held: `bytes` bytes from `place` on. */
+/* A page block, a slab, a free frame or a whole slot that is not held: the `bytes` bytes that begin at `place`. */
 typedef struct partmem_block {
     partmem_use use;
     uint32_t place;
@@ -389,7 +389,7 @@ PARTMEM_CHECKED partmem_status partmem_find_block(partmem_tenant tenant, uint32_
 
 #define PARTMEM_OF_NO_CACHE 0xffffffffu /* the number of no cache */
 
-/* A live object or a live page block: `bytes` bytes from `place` on. */
+/* A live object or a live page block: the `bytes` bytes that begin at `place`. */
 typedef struct partmem_object {
     uint32_t cache; /* the number of the object's cache, PARTMEM_OF_NO_CACHE for a page block */
     uint32_t place;
@@ -454,7 +454,7 @@ enum {
     PARTMEM_REPORT = 15
 };
 
-/* The kinds of a partmem_reply, with its numbers in order; the others are 0. */
+/* The kinds of a partmem_reply. Beside each kind are its numbers in order; the numbers after these are 0. */
 enum {
     PARTMEM_NOTHING = 0,    /* no reply has this kind */
     PARTMEM_REFUSED = 1,    /* the refusal, a partmem_status */
@@ -499,7 +499,7 @@ PARTMEM_CHECKED partmem_status partmem_event(partmem_machine *machine, const par
                                              size_t bytes_len, partmem_reply *reply, void *buffer, size_t buffer_len);
 
 /* Runs a line of a trace, without its line feed. Writes its reply lines, each with a line feed, to the beginning of the buffer,
- * and how many bytes these are to `*written`; the reply to a faulty line says what is wrong. The buffer has at least
+ * and the number of their bytes to `*written`; the reply to a faulty line says what is wrong. The buffer has at least
  * PARTMEM_MOST_TEXT_BYTES bytes. Returns NO_MACHINE, NOT_A_LINE, BUFFER_TOO_SMALL; `*written` is then 0, and the buffer
  * unchanged. */
 PARTMEM_CHECKED partmem_status partmem_line(partmem_machine *machine, const char *line, size_t line_len, char *buffer,
@@ -517,22 +517,23 @@ PARTMEM_CHECKED partmem_status partmem_line(partmem_machine *machine, const char
  *     stay where they are, and nobody else touches them: the caller uses only lent bytes. aligned_alloc, malloc and free are one
  *     allocator. [Anything.]
  *  4. Bounds. A load or store stays inside the lent bytes. An object ends at its size, not where the next begins. [It hits
- *     another object or block, the record of which objects are live, or, past a superblock, another tenant's memory or yours.]
+ *     another object or block, the bits that say which objects are live, or, past a superblock, another tenant's memory or
+ *     yours.]
  *  5. Endings. Nobody uses lent bytes after the call that ends their lifetime; after a move they are lent again. [A tenant
  *     stores into memory that belongs to another by now.]
  *  6. Flows. What was loaded for one tenant is not stored for another, or shown to it. No address is stored in lent bytes or
  *     shown to a tenant: a move changes it, and its value shows what the others did. Links are places. [Tenants learn of each
  *     other by the caller's own doing. No memory is damaged.] A program that calls malloc cannot keep to places: partmem_heap.h
  *     says what is lost and what stays if a tenant stores its own addresses.
- *  7. Users. Whoever keeps objects of its own in the caches of a tenant lets the tenant's user neither lend, read, write, give
- *     nor destroy there. [The user changes the caller's own objects.]
- *  8. Threads. One call at a time on a machine: from any thread, under a lock of the caller's. No call from a signal or
- *     interrupt handler that may have interrupted one, nor from the forked child of a process with threads. [Anything.] Loads
- *     and stores in lent bytes need no lock against calls, except a write to them, a read of them, and a call that ends their
- *     lifetime.
+ *  7. Users. If the caller keeps objects of its own in the caches of a tenant, it does not let the tenant's user lend, read,
+ *     write, give or destroy there. [The user changes the caller's own objects.]
+ *  8. Threads. One call at a time on a machine, from any thread, under a lock of the caller. No call from a signal or interrupt
+ *     handler that may have interrupted a call, nor from the forked child of a process with threads. [Anything.] Loads and stores
+ *     in lent bytes need no lock against calls, with three exceptions: a write to them, a read of them, and a call that ends
+ *     their lifetime.
  *  9. Ring 0. SSE is enabled, and the stack is aligned as C requires. A user's xmm registers are saved before the first call and
- *     restored after the last. The direction flag is clear. There are 4096 bytes of stack, beside what memcpy, memmove and memset
- *     take, above a guard page, and no interrupt uses them: the library also uses the 128 bytes below its stack pointer.
+ *     restored after the last. The direction flag is clear. There are 4096 bytes of stack above a guard page, beside what memcpy,
+ *     memmove and memset take. No interrupt uses this stack, since the library also uses the 128 bytes below its stack pointer.
  *     [Registers leak from tenant to tenant; the stack overflows.] libpartmem_kernel.a and libpartmem_linux.a require of this
  *     only the direction flag and the stack. Interrupts may use the same stack, if it has space for both.
  * 10. After the end. Whoever uses the memory after partmem_end, or after a crash, clears it first. [It reads the tenants'

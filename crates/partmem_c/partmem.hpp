@@ -11,22 +11,23 @@
  *
  * ERRORS. There are two forms, and both work with and without exceptions:
  * - A function returns a status, or a result<T>, which has a value or a status. It throws only what a constructor of T throws.
- * - A constructor with arguments of a machine, tenant, cache or heap, result<T>::value() and partmem::check() throw a
+ * - A constructor of a machine, tenant, cache or heap that has arguments, result<T>::value() and partmem::check() throw a
  *   partmem::error, which is a std::system_error. For each such constructor there is a function with the same arguments, boot()
  *   or open(), that returns a status instead.
- * With -fno-exceptions, everything that would throw calls std::abort, also a std::pmr container that gets no memory. Only a
- * heap's try_allocate and make return then.
+ * With -fno-exceptions, everything that would throw calls std::abort. So does a std::pmr container that gets no memory. Of a
+ * heap, only try_allocate and make return if there is no memory.
  *
- * ORDER. Declare a machine before its tenants, a tenant before its caches and heaps, and these before what is made in them:
- * destructors run the other way round. Before tenant::reset() destroy what was made for the tenant, its containers too. Otherwise
- * a destructor frees what belongs to another object by then. After tenant::reset() open() the tenant's caches and heaps again.
+ * ORDER. Declare a machine before its tenants, a tenant before its caches and heaps, and these before what is made in them,
+ * since destructors run in the reverse order. Before tenant::reset() destroy what was made for the tenant, its containers too.
+ * Otherwise a destructor that runs after the reset frees memory that belongs to another object by then. After tenant::reset()
+ * call open() for the tenant's caches and heaps again.
  *
  * A machine and a heap can be neither copied nor moved. Tenants, caches, page blocks and pointers can be moved, but not copied.
  * After tenant::move() the addresses of objects, pieces and blocks in that slot are stale; page_block::data() lends again.
  *
- * DUTIES. Those of partmem.h and partmem_heap.h. A container stores addresses in its tenant's memory; partmem_heap.h says what is
- * lost by that. Make one call at a time on a machine: with partmem::locked a container locks a mutex. For what is not here, call
- * the functions in C with get(). Include partmem_watched.h first, if you use it. */
+ * DUTIES. The duties of partmem.h and partmem_heap.h apply. A container stores addresses in its tenant's memory; partmem_heap.h
+ * says what is lost by that. Make one call at a time on a machine: with partmem::locked a container locks a mutex for each call.
+ * For what is not here, pass get() to the functions in C. If you use partmem_watched.h, include it first. */
 #ifndef PARTMEM_HPP
 #define PARTMEM_HPP
 
@@ -208,8 +209,8 @@ public:
         if (bytes_ > 0) static_cast<void>(!partmem_free(tenant_, place_));
     }
 
-    /* Lends the block and returns its address, which changes if its slot is moved. Do not use it after a reset of the tenant: it
-     * would return nullptr, or the address of what was allocated there since. */
+    /* Lends the block and returns its address, which changes if its slot is moved. Do not call data() after a reset of the
+     * tenant: it would return nullptr, or the address of memory that was allocated at the same place since the reset. */
     void *data() const noexcept { return partmem_at(tenant_, place_, bytes_); }
     std::size_t size() const noexcept { return bytes_; }
     std::uint32_t place() const noexcept { return place_; }
@@ -220,8 +221,8 @@ private:
     std::uint32_t bytes_; /* 0 if the block was moved to another page_block */
 };
 
-/* A tenant of a machine. Its destructor resets it. A number has only one tenant at a time. On an object that is no tenant
- * (default, moved from, or after a refused open()), call only open(), reset() and get(). */
+/* A tenant of a machine. Its destructor resets it. Make only one object for a tenant's number at a time. On an object that is no
+ * tenant (default, moved from, or after a refused open()), call only open(), reset() and get(). */
 class tenant {
 public:
     constexpr tenant() noexcept = default;
@@ -234,8 +235,9 @@ public:
     }
     ~tenant() { static_cast<void>(reset()); }
 
-    /* Makes this the tenant with this number, and grants it `superblocks` more superblocks. If there are too few, the tenant is
-     * reset, and this is no tenant. Returns has_machine if this is a tenant already, no_machine, no_tenant, pool_empty. */
+    /* Makes this object the tenant with this number, and grants it `superblocks` more superblocks. If the pool has too few, the
+     * tenant is reset, and this object is no tenant afterwards. Returns has_machine if this object is a tenant already,
+     * no_machine, no_tenant, pool_empty. */
     status open(machine &machine, std::uint32_t number, std::uint32_t superblocks = 0) noexcept
     {
         if (tenant_.machine) return status::has_machine;
@@ -261,7 +263,7 @@ public:
     /* Takes back an unused slot. Returns no_slot, slot_busy. */
     status take_back(std::uint32_t slot) noexcept { return status_of(partmem_take_back(tenant_, slot)); }
 
-    /* Moves a slot to another superblock. What was lent in it has another address then. Returns no_slot, pool_empty. */
+    /* Moves a slot to another superblock. All bytes of the slot then have other addresses. Returns no_slot, pool_empty. */
     result<partmem_slot> move(std::uint32_t slot) noexcept
     {
         partmem_slot moved;
@@ -349,8 +351,8 @@ public:
         if (tenant_.machine) static_cast<void>(!partmem_destroy_cache(tenant_, cache_));
     }
 
-    /* Makes this a new cache of the tenant. If it was a cache before, that one is not destroyed: it stays until its tenant is
-     * reset. Returns no_machine, no_cache_slot; then this is the cache that it was before. */
+    /* Makes this object a new cache of the tenant. If this object was a cache before, the old cache is not destroyed: it stays
+     * until its tenant is reset. Returns no_machine, no_cache_slot; this object is then still the old cache. */
     status open(const tenant &tenant) noexcept
     {
         partmem_cache made;
@@ -423,8 +425,8 @@ public:
     heap(const heap &) = delete;
     heap &operator=(const heap &) = delete;
 
-    /* Makes this the heap of a tenant. The heap that it was before is forgotten, even if bad_config or bad_memory is returned.
-     * Its pieces stay. Returns no_machine, bad_config, bad_memory. */
+    /* Makes this object the heap of a tenant. If it was a heap before, the old heap is forgotten, even if bad_config or
+     * bad_memory is returned. The pieces of the old heap stay. Returns no_machine, bad_config, bad_memory. */
     status open(const tenant &tenant, const partmem_heap_config &config = {}) noexcept
     {
         if (!tenant.get().machine) return status::no_machine;
@@ -492,7 +494,7 @@ void deleter<T>::operator()(T *object) const noexcept
     if (heap_->free(object) != status::done) std::abort();
 }
 
-/* A heap that locks a mutex for each call. All users of one machine have to lock the same one. */
+/* A heap that locks a mutex for each call. All users of one machine have to lock the same mutex. */
 template <typename Mutex>
 class locked final : public std::pmr::memory_resource {
 public:

@@ -7,57 +7,57 @@
  *     partmem_heap_free(&heap, text)                    refuses an address at which nothing of its own begins
  *
  * What a heap has allocated and not freed is called a piece. Anything that the heap cannot distinguish from its pieces counts as
- * one (DIRECT CALLS).
+ * a piece too (see DIRECT CALLS).
  *
  * COMMANDS. Each call runs commands of this tenant, by direct calls of partmem.h:
  *
- *     a request up to the largest class       take; before the first of its class also make_cache; if no class has its
- *                                             alignment, alloc
+ *     a request up to the largest class       take; before the first take of its class also make_cache; if no class has the
+ *                                             requested alignment, alloc
  *     a larger one                            alloc of a page block, which has a power of two of frames
  *     one larger than a superblock            none, and it is refused; with runs, allocs and frees of superblocks
  *     free                                    give or free; of a run, a free for each superblock
  *     realloc                                 none, those of a request, or those of a request and a free
  *     init, usable_size, place                none: they look things up
  *
- * If a take finds too few frames for a slab, which has up to 8, a page block of one frame is allocated instead. If the tenant
- * has 32 caches, a request whose class has none gets an object of the next class that has one, or else a page block. So the
- * commands follow from the earlier calls to the heap, the tenant's other commands, and its grants, take-backs and resets, except
- * for whether partmem_heap_init accepts the slots of a heap with runs (RUNS). A tenant gets the same places, sizes and refusals
- * whatever other tenants do. No object has a header, and nothing is kept for each frame: the library finds what is live at a
- * place (partmem_find_object).
+ * If a take finds too few frames for a slab, which has up to 8 frames, a page block of one frame is allocated instead. If the
+ * tenant has 32 caches, a request whose class has no cache gets an object of the next class that has one, or else a page block.
+ * So the commands follow from the earlier calls to the heap, from the tenant's other commands, and from its grants, take-backs
+ * and resets. One result does not follow from these: whether partmem_heap_init accepts the slots of a heap with runs (see RUNS).
+ * A tenant gets the same places, sizes and refusals whatever other tenants do. No object has a header, and nothing is kept for
+ * each frame: the library finds what is live at a place (partmem_find_object).
  *
  * DIRECT CALLS. A tenant may use direct calls beside its heap. They can use 8 of its 32 caches, or more if the heap has fewer
- * classes. Do not free with the heap what a direct call allocated, nor the other way round. The heap refuses an object if no
- * cache of the heap ever had the number of the object's cache. It also refuses it if the heap's last cache of that number was for
- * another size. It cannot distinguish a page block, or any other object, of a direct call from its own. A direct call may reap,
- * and destroy caches of the heap that have no live object. Then a direct call may make another cache with the number of a
- * destroyed one. If the heap takes an object of this cache, and the size or the alignment is wrong, the heap gives it back and
- * makes a new cache for itself.
+ * classes. Do not free with the heap what a direct call allocated, nor the other way round. The heap refuses to free an object if
+ * no cache of the heap ever had the number of the object's cache. It also refuses if the heap's last cache with that number was
+ * for another size. It cannot distinguish a page block of a direct call, or any other object of a direct call, from its own. A
+ * direct call may reap, and destroy caches of the heap that have no live object. Then a direct call may make another cache with
+ * the number of a destroyed cache. If the heap takes an object of this new cache, and the size or the alignment is wrong, the
+ * heap gives the object back and makes a new cache for itself.
  *
  * RUNS. Without runs nothing in the heap depends on superblocks or addresses. With runs (has_runs) a request larger than a
- * superblock takes superblocks, from the first free one on, until enough lie in a row; the others are freed again. So the slots
- * of the tenant have to lie one after another in RAM. They do if all are granted in a row at the start. partmem_heap_init refuses
- * other slots. Slots that are granted later become part of no run. After partmem_heap_init move no slot of the tenant, and take
- * none back. [Otherwise a run with that slot leads to memory that others own by then, and which requests are refused depends on
- * superblocks.]
+ * superblock allocates superblocks, beginning with the first free one, until enough of them lie in a row. This row is a run; the
+ * other superblocks are freed again. So the slots of the tenant have to lie one after another in RAM. They do if all are granted
+ * in a row at the start. partmem_heap_init refuses other slots. Slots that are granted later become part of no run. After
+ * partmem_heap_init move no slot of the tenant, and take none back. [Otherwise a run with that slot leads to memory that others
+ * own by then. Also, it then depends on superblocks which requests are refused.]
  *
- * ADDRESSES. Duty 6 of partmem.h forbids storing addresses in lent bytes. Each program that calls malloc does that. If a tenant
- * may do so,
- * - no slot of the tenant is moved as long as an address is in use. [Stored addresses lead to what others own by then.]
+ * ADDRESSES. Duty 6 of partmem.h forbids storing addresses in lent bytes. But each program that calls malloc stores addresses
+ * there. If a tenant may store them,
+ * - no slot of the tenant is moved as long as an address is in use. [Stored addresses lead to memory that others own by then.]
  * - what the program computes from the numbers in addresses, such as their order, a hash or a printed pointer, depends on who
  *   holds which superblock. So the tenant may learn of grants to others, and of their moves, resets and take-backs.
- * The rest of that duty stays, and so does everything else: which bytes are whose, places, sizes, refusals, and every result that
+ * The rest of duty 6 still applies. Nothing else changes: which bytes are whose, places, sizes, refusals, and every result that
  * does not follow from the numbers in addresses. A place may be stored and shown (partmem_heap_place).
  *
- * NOT COVERED: stores outside of a piece, which hit other pieces of this tenant, the record of which objects are live, or, past a
- * superblock, another tenant (duty 4); addresses that are used after their free (duty 5); a second free after the address was
- * allocated again; and time. With partmem_watched.h AddressSanitizer and valgrind see most of the first two.
+ * NOT COVERED: stores outside of a piece, which hit other pieces of this tenant, the bits that say which objects are live, or,
+ * past a superblock, another tenant (duty 4); addresses that are used after their free (duty 5); a second free after the address
+ * was allocated again; and time. With partmem_watched.h AddressSanitizer and valgrind see most faults of the first two kinds.
  *
- * DUTIES. Those of partmem.h, except that config and the address of a piece may be NULL, and that an address may have any value.
- * A call to a heap counts as a call on its machine: make one at a time. Heap and config lie outside of the machine's memory. Only
- * these functions read or write a heap; it may be copied elsewhere if the old one is not used again. A tenant has one heap: calls
- * to a second one count as direct calls. Before partmem_heap_init, after a reset of the tenant and after the machine's end, a
- * heap is not used until it is initialised, unless all of it is 0.
+ * DUTIES. The duties of partmem.h apply, with two exceptions: config and the address of a piece may be NULL, and an address that
+ * is passed may have any value. A call to a heap counts as a call on its machine: make one at a time. Heap and config lie outside
+ * of the machine's memory. Only these functions read or write a heap; it may be copied elsewhere if the old copy is not used
+ * again. A tenant has one heap: calls to a second heap count as direct calls. Do not use a heap before partmem_heap_init. After a
+ * reset of the tenant or the machine's end, do not use it until it is initialised again. A heap that is all 0 may always be used.
  *
  * PROVED: what each command of the heap does. TESTED: all of heap.c, and the functions in C that it uses, partmem_find_place and
  * partmem_superblock_address. docs/heap.md says how, and what a heap costs. */
@@ -75,8 +75,8 @@ extern "C" {
 
 /* How to set up a heap. All 0 means the default classes and no runs. */
 typedef struct partmem_heap_config {
-    const uint16_t *sizes; /* of the classes, in bytes: multiples of 16 that rise, up to 4096. Not used after the call */
-    uint32_t count;        /* of the sizes: up to 24. If it is 0, the heap has the default classes, and `sizes` is not read */
+    const uint16_t *sizes; /* of the classes, in bytes: ascending multiples of 16, up to 4096. Not used after the call */
+    uint32_t count;        /* how many sizes: up to 24. If it is 0, the heap has the default classes, and `sizes` is not read */
     uint32_t has_runs;     /* 0 or 1 */
 } partmem_heap_config;
 
@@ -97,14 +97,15 @@ typedef struct partmem_heap {
     uint16_t run[PARTMEM_MOST_SUPERBLOCKS];
 } partmem_heap;
 
-/* Initialises the heap of a tenant. `config` is NULL for the default classes and no runs. Returns BAD_CONFIG, and with runs
- * BAD_MEMORY if the tenant has no slot, or if its slots are not 0, 1, 2 .. with superblocks that follow each other in RAM. */
+/* Initialises the heap of a tenant. `config` is NULL for the default classes and no runs. Returns BAD_CONFIG if `sizes` or
+ * `count` is not as partmem_heap_config says. With runs, returns BAD_MEMORY if the tenant has no slot, or if its slots are not 0,
+ * 1, 2 .. with superblocks that follow each other in RAM. */
 PARTMEM_CHECKED partmem_status partmem_heap_init(partmem_heap *heap, partmem_tenant tenant, const partmem_heap_config *config);
 
-/* Allocates at least `bytes` bytes, and at least 1, at a multiple of 16. They have any values. Returns NULL for a heap that is
- * all 0, for a request that is too large, and if no free block is large enough (with runs: no row of free superblocks), even
- * after all empty slabs were given back. A refused request may have made the cache of its class, and with runs it may have given
- * back the tenant's empty slabs. */
+/* Allocates at least `bytes` bytes, and at least 1 byte, at an address that is a multiple of 16. The bytes may have any values.
+ * Returns NULL for a heap that is all 0, for a request that is too large, and if no free block is large enough (with runs: no row
+ * of free superblocks), even after all empty slabs were given back. A refused request may have made the cache of its class, and
+ * with runs it may have given back the tenant's empty slabs. */
 void *partmem_heap_malloc(partmem_heap *heap, size_t bytes);
 
 /* Allocates `count` times `bytes` bytes, which are 0. Returns NULL as malloc does, and if the product overflows. */
@@ -114,14 +115,15 @@ void *partmem_heap_calloc(partmem_heap *heap, size_t count, size_t bytes);
 void *partmem_heap_aligned_alloc(partmem_heap *heap, size_t align, size_t bytes);
 
 /* Gives a piece another size, and perhaps another address. Its bytes stay, up to the smaller size. If `old` is NULL, it
- * allocates. With 0 bytes the piece stays, perhaps smaller and elsewhere, with any values. Returns NULL as malloc does, and if no
- * piece begins at `old`; then `old` and its bytes are as before. */
+ * allocates. If `bytes` is 0, the piece is not freed: it may become smaller and get another address, and its bytes may have any
+ * values. Returns NULL as malloc does, and if no piece begins at `old`; then `old` and its bytes are as before. */
 void *partmem_heap_realloc(partmem_heap *heap, void *old, size_t bytes);
 
 /* Frees the piece that begins at an address. For NULL it frees nothing. If it returns another status than DONE, nothing has
- * changed. Returns NOT_HELD outside of the tenant's slots, OUT_OF_REACH if nothing is live there, and NOT_AN_OBJECT or
- * NOT_A_BLOCK inside of a piece, and for an object that it can distinguish from its own. It frees page blocks of direct calls,
- * and objects of direct calls that it cannot distinguish from its own (DIRECT CALLS). */
+ * changed. Returns NOT_HELD for an address outside of the tenant's slots, and OUT_OF_REACH if nothing is live at the address.
+ * Returns NOT_AN_OBJECT or NOT_A_BLOCK for an address inside of a piece, and for an object of a direct call that the heap can
+ * distinguish from its own. It frees page blocks of direct calls, and objects of direct calls that it cannot distinguish from
+ * its own (see DIRECT CALLS). */
 partmem_status partmem_heap_free(partmem_heap *heap, void *at);
 
 /* Returns how many bytes of a piece may be used, at least those that were requested; 0 if no piece begins at the address. */

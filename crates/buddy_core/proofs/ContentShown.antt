@@ -143,7 +143,7 @@ tenant_within tenants t u m at = go (cases_lt t (length tenants))
     go (inl lt) = lt
     go (inr past) = absurd (none-some m (sym (ap (λ r. superblock_at r u) (get_or_past tenants t blank_of past)) ∙ at))
 
--- what is true of a tenant's stored slots and taken blocks is true of those that contracts see
+-- if P is true of a tenant's stored slots and taken blocks, it is true of the slots and taken blocks that contracts see
 pub by_shown : (P : ℕ → (ℕ → Bool) → Taken → Type 0) (top : ℕ) (superblocks : List StoredSuperblock) (tenants : List StoredTenant) (t : ℕ) (c : Content) → IsShown top superblocks tenants t c
     → P top (held_by (stored_tenant t tenants)) (taken_by top superblocks (stored_tenant t tenants)) → P c.top (is_held (holding_of t c)) (taken_of (holding_of t c))
 by_shown P top superblocks tenants t c s p =

@@ -1,4 +1,5 @@
--- The words of a tree after the first write of a reserve or a release, and after each step up from there.
+-- The words of a tree after the first write of a reserve or a release, and after each step up from there. `old` and `new` say
+-- which frames are available before and after the change. A block is clear if all its frames are available.
 use Rattle.std.proofs.Common.{◌≡◌, ℕ, zero, suc, ◌+◌, ◌-◌, ◌*◌, ◌/◌, ◌^◌, ◌<◌, ◌≤◌, Bool, true, false, cond, List, length, get_or, set, length-set, ◌⊎◌, inl, inr, refl, sym, ap, ap₂, subst, ◌∙◌, arith}
 use Rattle.std.specs.Prelude.{bit_or}
 use Rattle.std.proofs.lemmas.Bool.{and_from, both_ways, cases_eq, cond-true, cond-false, false_from_ne_true}
@@ -30,8 +31,8 @@ word_free : (ok : ℕ → Bool) (top k f i e q : ℕ) → ((x : ℕ) → IsWith 
 word_free ok top k f i e q all small s a =
     word_inside ok top i q small ∙ cond-true _ 0 (orders ok i q) (clear_from ok (suc i) (q / 2) (λ x h. all x (around_with k f i e q x s a h)))
 
--- after the word of the changed block is written, the words inside this block are those that a tree of this block alone would
--- have under `new`
+-- after the word of the changed block is written, the words inside this block are those that they would be for `new` if the block
+-- had a tree of its own
 start_within : (top k d f v : ℕ) (old new : ℕ → Bool) (words : List ℕ) → d + k ≡ top → f < 2 ^ top → Shows top old words
     → v ≡ orders new k (number_at k f)
     → ((i e q : ℕ) → i + suc e ≡ k → number_at (suc e) q ≡ number_at k f → word old top i q ≡ word new k i q)
@@ -83,8 +84,8 @@ start_release top k d f small large words s b shows less =
 agree_above : (a b : ℕ → Bool) (k n m f : ℕ) → k + n ≡ m → ((x : ℕ) → (IsWith k f x → ⊥) → a x ≡ b x) → (x : ℕ) → (IsWith m f x → ⊥) → a x ≡ b x
 agree_above a b k n m f s same x off = same x (λ w. off (sym (number_above n k m x s) ∙ ap (λ i. number_at n i) w ∙ number_above n k m f s))
 
--- If the block of order k + 1 around the changed block was not clear, the word of each of its halves is the one that the root of
--- a tree of this half alone would have under `new`.
+-- If the block of order k + 1 around the changed block was not clear, each of its halves has the word that it would have for
+-- `new` as the root of a tree of its own.
 halves_stand : (top k f d : ℕ) (old new : ℕ → Bool) (words : List ℕ) → d + suc k ≡ top → ((x : ℕ) → (IsWith k f x → ⊥) → old x ≡ new x)
     → Mended top k f old new words → is_clear old (suc k) (number_at (suc k) f) ≡ false
     → (q : ℕ) → q / 2 ≡ number_at (suc k) f → q < 2 ^ suc d → word_at words (suc d) q ≡ orders new k q
@@ -98,7 +99,7 @@ halves_stand top k f d old new words s agree m off q e b = elim (cases_eq q (num
     only : (i e q : ℕ) → (q ≡ number_at k f → ⊥) → (n : ℕ) → k + n ≡ k → number_at n q ≡ number_at k f → ⊥
     only i e q ne n t a = ne (subst (λ j. number_at j q ≡ number_at k f) (let z : n ≡ 0 = omega arith in z) a)
 
--- the word of the changed block has the orders of this block under `new`
+-- the word of the changed block is `orders` of this block for `new`
 word_changed : (top k f d : ℕ) (old new : ℕ → Bool) (words : List ℕ) → f < 2 ^ top → d + k ≡ top → Mended top k f old new words
     → word_at words d (number_at k f) ≡ orders new k (number_at k f)
 word_changed top k f d old new words b s m =
@@ -111,8 +112,8 @@ confined_up top k f old new c = record {
   after = λ i le lt. c.after i (omega arith) lt;
 }
 
--- Let the block of order k + 1 around frame f be clear neither before nor after the change. Then a step up writes v, the bitwise
--- or of the words of its halves. Here s is the number of the half that does not contain f.
+-- Suppose that the block of order k + 1 around frame f is clear neither before nor after the change. Then a step up writes v, the
+-- bitwise or of the words of the block's halves. Here s is the number of the half that does not contain f.
 pub climb_step : (top k f d : ℕ) (old new : ℕ → Bool) (words : List ℕ) → f < 2 ^ top → length words + 1 ≡ 2 ^ (top + 1) → d + suc k ≡ top
     → IsConfined top k f old new → Mended top k f old new words → (n s v : ℕ) → n ≡ 2 ^ d + number_at (suc k) f → s + number_at k f ≡ 4 * number_at (suc k) f + 1
     → v ≡ bit_or (word_at words (suc d) (number_at k f)) (word_at words (suc d) s) → Mended top (suc k) f old new (set words (n - 1) v)
@@ -126,7 +127,8 @@ climb_step top k f d old new words b size t c m n s v node pair e =
     (climbs_split d k p (number_at k f) s n v new words node small (omega arith) refl pair each (c.after k (omega arith) (omega arith))
     (e ∙ ap₂ (λ i j. bit_or i j) (each (number_at k f) refl) (each s (omega arith))))
 
--- if the block of order k + 1 around frame f was clear and is not clear now, a step up makes its half without f one free block
+-- if the block of order k + 1 around frame f was clear and is not clear now, a step up makes one free block of the half that does
+-- not contain f
 up_split : (top k f d : ℕ) (old new : ℕ → Bool) (words : List ℕ) → f < 2 ^ top → length words + 1 ≡ 2 ^ (top + 1) → d + suc k ≡ top
     → ((x : ℕ) → (IsWith k f x → ⊥) → old x ≡ new x) → Mended top k f old new words → is_clear old (suc k) (number_at (suc k) f) ≡ true
     → is_clear new (suc k) (number_at (suc k) f) ≡ false → (n r : ℕ) → n ≡ 2 ^ d + number_at (suc k) f → r + number_at k f ≡ 4 * number_at (suc k) f + 1
@@ -156,7 +158,8 @@ up_split top k f d old new words b size s agree m free off n r node pair i v pla
           ∙ word_at-set_other words i (2 ^ k) e2 q (λ x. far_half d p r (i + 1) e2 q place (omega arith) small h a1 x);
     })
 
--- if the block of order `from` around frame f is free, every block around f up to this order is clear, and no larger block is
+-- if the block of order `from` around frame f is free, every block around f up to this order is clear, and no larger block around
+-- f is clear
 free_up : (ok : ℕ → Bool) (top from k f : ℕ) → IsOpen ok top from (number_at from f) → k < from → is_clear ok (suc k) (number_at (suc k) f) ≡ true
 free_up ok top from k f (small, clear, around) h =
     let n = from - suc k in

@@ -1,5 +1,6 @@
--- The words while a change is carried up the tree. The words inside one block are already those of a separate tree of the block,
--- for the new availability. All other words are as before.
+-- Lemmas for the words of a tree while a change of the available frames is carried up. `old` and `new` say which frames are
+-- available before and after the change. The words inside one block are already those of a separate tree of the block for `new`.
+-- All other words are as before. A block is clear if all its frames are available.
 use Rattle.std.proofs.Common.{◌≡◌, ℕ, zero, suc, ◌+◌, ◌-◌, ◌*◌, ◌/◌, ◌^◌, ◌<◌, ◌≤◌, Bool, true, false, ◌⊎◌, cond, List, length, set, length-set, inl, inr, sym, ap, ap₂, subst, ◌∙◌, arith}
 use Rattle.std.specs.Prelude.{bit_or}
 use Rattle.std.proofs.lemmas.Bool.{cases_eq, cond-true, cond-false}
@@ -26,8 +27,8 @@ away_around : (k f i e q x : ℕ) → i + suc e ≡ k → (number_at (suc e) q �
 away_around k f i e q x s off h w =
     off (sym (number_above e 1 (suc e) q (omega arith)) ∙ ap (λ n. number_at e n) (sym h) ∙ number_above e (suc i) k x (omega arith) ∙ w)
 
--- if `a` and `b` agree outside the changed block, a smaller block outside it has the same word for `a` in the whole tree as for
--- `b` in a tree of order k + 1
+-- if `a` and `b` agree outside the changed block, each smaller block outside the changed block has the same word for `a` in the
+-- whole tree as for `b` in a tree of order k + 1
 only_place : (k f i e q : ℕ) → i + e ≡ k → (number_at e q ≡ number_at k f → ⊥) → (n : ℕ) → i + n ≡ k → number_at n q ≡ number_at k f → ⊥
 only_place k f i e q s off n t r = off (subst (λ j. number_at j q ≡ number_at k f) (let same : n ≡ e = omega arith in same) r)
 
@@ -49,7 +50,7 @@ pub record Climbs (d k p : ℕ) (new : ℕ → Bool) (before after : List ℕ) :
   pub whole : word_at after d p ≡ orders new (suc k) p
   pub other : (e q : ℕ) → q < 2 ^ e → (e ≡ suc d → q / 2 ≡ p → ⊥) → (e ≡ d → q ≡ p → ⊥) → word_at after e q ≡ word_at before e q
 
--- after a step up, the words inside the larger block are those of a separate tree under `new`
+-- after a step up, the words inside the larger block are those of a separate tree for `new`
 climb_within : (top k f d0 : ℕ) (old new : ℕ → Bool) (before after : List ℕ) → d0 + suc k ≡ top → ((x : ℕ) → (IsWith k f x → ⊥) → old x ≡ new x)
     → Mended top k f old new before → Climbs d0 k (number_at (suc k) f) new before after
     → (d i e q : ℕ) → d + i ≡ top → q < 2 ^ d → i + e ≡ suc k → number_at e q ≡ number_at (suc k) f → word_at after d q ≡ word new (suc k) i q
@@ -87,7 +88,7 @@ climbs top k f d0 old new before after up agree m w = record {
   beyond = climb_beyond top k f d0 old new before after up m w;
 }
 
--- when the words are mended up to the whole superblock, they show the new availability
+-- if `Mended` holds for the whole superblock, the words show `new`
 pub shows_mended : (top f : ℕ) (old new : ℕ → Bool) (words : List ℕ) → f < 2 ^ top → length words + 1 ≡ 2 ^ (top + 1) → Mended top top f old new words → Shows top new words
 shows_mended top f old new words h size m = record {
   size = size;

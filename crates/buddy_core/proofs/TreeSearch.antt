@@ -1,4 +1,5 @@
--- The search of a tree goes down from the root. Of all free blocks of an order, it finds the one with the least first frame.
+-- The search of a tree goes down from the root. Of all free blocks of an order, it finds the one with the least first frame. A
+-- block is clear if all its frames are available.
 use Rattle.std.proofs.Common.{◌≡◌, ℕ, suc, ◌+◌, ◌-◌, ◌*◌, ◌/◌, ◌%◌, ◌^◌, ◌<◌, ◌≤◌, Bool, true, false, List, length, get_or, ◌⊎◌, inl, inr, refl, sym, ap, subst, ◌∙◌, arith}
 use Rattle.std.specs.Prelude.{slice_index}
 use Rattle.std.specs.Int.{bit_at}
@@ -19,7 +20,7 @@ pub record Leads (ok : ℕ → Bool) (top j k q : ℕ) : Type 0 where
   pub around : (k ≡ top) ⊎ (is_clear ok (suc k) (q / 2) ≡ false)
   pub least : (n p : ℕ) → j + n ≡ k → p < 2 ^ (top - j) → IsOpen ok top j p → q ≤ number_at n p
 
--- the root word is the orders of the whole superblock
+-- the root word is `orders` of the whole superblock
 pub first_word : (ok : ℕ → Bool) (top : ℕ) (words : List ℕ) → Shows top ok words → slice_index words 0 ≡ orders ok top 0
 first_word ok top words shows = shows.each 0 top 0 (omega arith) (omega arith) ∙ word_whole ok top 0
 
@@ -35,7 +36,7 @@ not_whole : (ok : ℕ → Bool) (k q j : ℕ) → j ≤ k → bit_at (orders ok 
 not_whole ok k q j h b = false_from_ne_true _ (λ t.
     let whole = bit_apart (suc k) j (subst (λ n. bit_at n j ≡ 1) (orders_clear ok (suc k) q t) b) in omega arith)
 
--- if the search is at a block of order k + 1 and j is at most k, the stored word of the block's lower half is the orders of that
+-- if the search is at a block of order k + 1 and j is at most k, the stored word of the block's lower half is `orders` of that
 -- half
 pub low_word : (ok : ℕ → Bool) (top j k q d : ℕ) (words : List ℕ) → Shows top ok words → suc d + k ≡ top → q < 2 ^ d → j ≤ k → Leads ok top j (suc k) q
     → (n : ℕ) → n ≡ 2 ^ d + q → slice_index words (2 * n - 1) ≡ orders ok k (2 * q)
@@ -93,8 +94,8 @@ at_depth ok top j d k q n e a b s l =
 below_top : (top d : ℕ) → d < top → top - d ≡ suc (top - suc d)
 below_top top d h = omega arith
 
--- Given that `Leads` passes from a block to its half x, `Reached` passes from node n to node m + x, where m is 2 * n. Half 0 is
--- the lower half, and half 1 the upper one.
+-- If `Leads` for a block implies `Leads` for its half x, then `Reached` for node n implies `Reached` for node m + x, where m is
+-- 2 * n. Half 0 is the lower half, and half 1 is the upper half.
 stepped_down : (top j d n m e x : ℕ) (words : List ℕ) → x < 2 → d + j < top → e ≡ d + 1 → m ≡ n * 2
     → ((ok : ℕ → Bool) (k q : ℕ) → j ≤ k → k < top → Leads ok top j (suc k) q → slice_index words (m - 1) ≡ orders ok k (2 * q) → Leads ok top j k (2 * q + x))
     → Reached top j d n words → Reached top j e (m + x) words
@@ -163,8 +164,8 @@ reached_first top j d words e =
 pub reached_last : (top j level n : ℕ) (words : List ℕ) → level ≡ top → Reached top j (level - j) n words → Reached top j (top - j) n words
 reached_last top j level n words e way = subst (λ i. Reached top j (i - j) n words) e way
 
--- Nodes 1 to `len / 2 ^ (j + 1)` are the nodes of the orders above j. If node n at depth d is one of these, its order is above j.
--- If n is greater than all of these and its order is at least j, its order is j (next lemma).
+-- Nodes 1 to `len / 2 ^ (j + 1)` are the nodes of the orders above j. If node n at depth d is among these nodes, its order is
+-- above j. The next lemma: if n is greater than `len / 2 ^ (j + 1)`, and the order of node n is at least j, its order is j.
 pub inner_above : (top j d n len : ℕ) → len + 1 ≡ 2 ^ (top + 1) → n ≤ len / 2 ^ (j + 1) → 2 ^ d ≤ n → d + j < top
 inner_above top j d n len size test least = elim (cases_lt (d + j) top) [
   | inl lt ↦ lt

@@ -5,13 +5,13 @@ use Rattle.model_core.specs.declared.limits.TheConstants.{MOST_ORDER, MOST_SUPER
 use Rattle.buddy_core.specs.declared.find.Source.{Source}
 use Rattle.buddy_core.specs.Stored.{StoredSuperblock, StoredTenant, superblock_of}
 
--- no slot from `end` on has a superblock
+-- neither slot `end` nor a later slot has a superblock
 pub record IsEnd (slots : List (Option ℕ)) (end : ℕ) : Type 0 where
   pub within : end ≤ length slots
   pub rest : (u : ℕ) → end ≤ u → slice_index_or slots u None ≡ None
 
--- A tenant has at most MOST_SUPERBLOCKS slots, and no slot from `end` on has a superblock. For each of at most MOST_ORDER + 1
--- orders, it has a count of free blocks and a count of taken blocks.
+-- A tenant has at most MOST_SUPERBLOCKS slots, and neither slot `end` nor a later slot has a superblock. For each of at most
+-- MOST_ORDER + 1 orders, the tenant has a count of free blocks and a count of taken blocks.
 pub record IsStoredTenant (slots : List (Option ℕ)) (end : ℕ) (free taken : List ℕ) : Type 0 where
   pub ends : IsEnd slots end
   pub few : length slots ≤ MOST_SUPERBLOCKS
@@ -38,8 +38,8 @@ IsThere superblocks slots = (u m : ℕ) → slice_index_or slots u None ≡ Some
 abbrev pub IsWithoutOrder : List StoredSuperblock → List (Option ℕ) → ℕ → Type 0
 IsWithoutOrder superblocks slots k = (j u m : ℕ) → k ≤ j → slice_index_or slots u None ≡ Some m → HasBit superblocks m j → ⊥
 
--- `p.order` is the least order, of those from k on, that has a free block. `p.slot` is the first slot with a free block of this
--- order, and `p.superblock` is the superblock in this slot.
+-- Of the orders that are at least k and have a free block, `p.order` is the least. `p.slot` is the first slot with a free block
+-- of this order, and `p.superblock` is the superblock in this slot.
 pub record IsSource (superblocks : List StoredSuperblock) (slots : List (Option ℕ)) (k : ℕ) (p : Source) : Type 0 where
   pub at : slice_index_or slots p.slot None ≡ Some p.superblock
   pub enough : k ≤ p.order

@@ -20,7 +20,7 @@ HasFree c t j node = (f : ℕ) × IsFree c.top (is_held (holding_of t c)) (taken
 
 pub record IsTable (c : Content) (m : ℕ) (words : List ℕ) : Type 0 where
   pub size : length words + 1 ≡ 2 ^ (c.top + 1)
-  -- bit j of a node is 1 if and only if a free block of order j lies inside the node's block
+  -- bit j of a node's word is 1 if and only if a free block of order j lies inside the node's block
   pub under : (t u : ℕ) → superblock_at (holding_of t c) u ≡ Some m → (d q j : ℕ) → d ≤ c.top → q < 2 ^ d
       → (bit_at (slice_index words (2 ^ d + q - 1)) j ≡ 1) ↔ HasFree c t j (node_block c.top u d q)
   -- if the superblock is in no tenant's slot, all words are 0

@@ -1,8 +1,8 @@
 //! The binary buddy system of a machine that is divided between tenants (Knuth, The Art of Computer
 //! Programming, volume 1, section 2.5).
 //!
-//! A superblock has `2^order` frames and is in at most one slot of one tenant. The frames of slot `u` of a tenant are numbered
-//! from `u * 2^order` on. A block of order `k` has `2^k` frames and begins at a multiple of `2^k`. [`Buddy::reserve`] takes a
+//! A superblock has `2^order` frames and is in at most one slot of one tenant. The first frame of slot `u` of a tenant has the
+//! number `u * 2^order`. A block of order `k` has `2^k` frames and begins at a multiple of `2^k`. [`Buddy::reserve`] takes a
 //! block, and [`Buddy::release`] frees it. A free block lies in a held slot and has no taken frame, and no larger block around it
 //! has both properties. So free halves are joined at every release.
 //!
@@ -43,7 +43,7 @@ use crate::tenant::Tenant;
 use std::alloc::{AllocError, Global};
 use std::marker::Model;
 
-/// The error if a frame of the slot is taken.
+/// The error of [`Buddy::drop_slot`] if a frame of the slot is taken.
 #[derive(Clone, Copy, Debug, PartialEq, Eq)]
 pub struct SlotBusy;
 
@@ -204,9 +204,9 @@ impl Buddy {
         self.tenants[t as usize].clear();
     }
 
-    /// Takes a block of order `k` for tenant `t` and returns its first frame. Of the orders from `k` on, it chooses the least
-    /// that has a free block. The block is the beginning of the first free block of this order. Returns `None` and changes
-    /// nothing if no block of order `k` or more is free.
+    /// Takes a block of order `k` for tenant `t` and returns its first frame. Of the orders that are at least `k` and have a free
+    /// block, it chooses the least. The taken block is the beginning of the first free block of this order. Returns `None` and
+    /// changes nothing if no block of order `k` or more is free.
     ///
     /// A free block that is too large is split, and the upper half of each split stays free.
     pub fn reserve(&mut self, t: u8, k: u8) -> Option<u32>
@@ -362,8 +362,8 @@ impl Buddy {
     }
 
     /// Returns the stored words of superblock `m`, one for each node. Node `i` is at index `i - 1`. Node 1
-    /// is the whole superblock, and nodes `2i` and `2i + 1` are the halves of node `i`. Bit `j` of a node is
-    /// 1 if and only if a free block of order `j` lies inside the node's block.
+    /// is the whole superblock, and nodes `2i` and `2i + 1` are the halves of node `i`. Bit `j` of a node's word
+    /// is 1 if and only if a free block of order `j` lies inside the node's block.
     pub fn table(&self, m: u16) -> &[u16]
         requires { m < self.now.superblocks }
         ensures { IsTable self.now m result.now }

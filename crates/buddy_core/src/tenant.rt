@@ -12,7 +12,7 @@ use std::marker::Model;
 #[derive(Debug, Drop)]
 pub struct Tenant {
     slots: Vec<Option<u16>>,
-    // The tenant holds no slot from this one on, so searches end here.
+    // The tenant holds neither this slot nor a later one, so searches end here.
     end: usize,
     free: Vec<u32>,
     taken: Vec<u32>,

@@ -182,8 +182,8 @@ impl Tree {
         }
     }
 
-    /// Writes the words inside the block of order `from` around frame `first`, a free block from which the block of `order` around
-    /// that frame is taken. One free block of each order from `order` to `from - 1` remains.
+    /// Takes the block of `order` around frame `first` out of the free block of order `from` around that frame, and writes the
+    /// words inside the free block. One free block of each order from `order` to `from - 1` remains.
     #[inline(always)]
     fn split(&mut self, leaf: u32, first: u32, from: u8, order: u8)
         requires order { order ≤ from }

@@ -122,8 +122,8 @@ ends_broken line at ask (b ∷ tell) w none ended = ap (λ (bytes : List ℕ). f
 -- ---- the finding, whatever follows
 
 -- The parts `asked` and `told` of the two texts have been read. The finding for the whole texts is the finding for the bytes that
--- follow these parts, from the state `now` and the line numbers `line` and `at` on. If memory may run out in the bytes that
--- follow, it may run out in the whole texts.
+-- follow these parts, if it begins with the state `now` and the line numbers `line` and `at`. If memory may run out while
+-- these bytes are checked, it may run out while the whole texts are checked.
 abbrev pub IsBehind : (w : Known) (asked told : List ℕ) (line at : ℕ) (trace : Source) (now : Known) → Type 0
 IsBehind w asked told line at trace now = (more later : List ℕ) → MayFollow trace more
     → (finding_of w (asked ++ more) (told ++ later) ≡ finding line at (readings_of more) later now)
@@ -146,13 +146,13 @@ behind_parts w asked told part answer is given more later may =
 
 -- ---- the line and the reply of a breach
 
--- if the reply to a line breaks a promise, the line is one that has a reply
+-- if the verdict at a line is a broken promise, the line is neither blank nor a comment, so it has a reply
 pub has_reply : (reading : Line) (bytes : List ℕ) (w : Known) (promise : Promise) → verdict_at reading bytes w ≡ Err promise → IsLineOrNone (reading ∷ [])
 has_reply (Ok None) bytes w promise is = absurd cc
 has_reply (Ok (Some event)) bytes w promise is = tt
 has_reply (Err fault) bytes w promise is = tt
 
--- Let `part`, the next part of the trace, be empty, or one line that has a reply. If the breach is at the last line of
+-- Suppose that `part`, the next part of the trace, is empty or is one line that has a reply. If the breach is at the last line of
 -- `asked ++ part`, and at reply line `at + 1`, it is a breach at `part`.
 pub breach_at : {now : Known} {line at : ℕ} (trace : Source) (w : Known) (asked told part answer : List ℕ) (breach : Breach) (readings : List Line)
     → IsBehind w asked told line at trace now → lines_at at told ≡ Some (told, []) → readings_of part ≡ readings → breach.line ≡ line + length readings

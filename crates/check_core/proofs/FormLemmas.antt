@@ -1,5 +1,6 @@
--- Two directions. If a text matches a form, and numbers are found in it, the text is the form with these numbers filled in. And
--- the text of a form with numbers filled in matches the form, and the numbers that are found in it are these.
+-- Lemmas in two directions. If a text matches a form, and numbers are found in it, the text is the form with these numbers filled
+-- in. In the other direction, a form with numbers filled in is a text that matches the form, and the numbers that are found in
+-- the text are the numbers that were filled in.
 use Rattle.std.proofs.Common.{rules, ◌≡◌, ℕ, zero, suc, ◌+◌, ◌-◌, ◌*◌, ◌^◌, ◌<◌, ◌≤◌, Bool, true, false, cond, not, ◌&&◌, List, [], ◌∷◌, ◌++◌, length, get_or, take, drop, fold, Option, Some, None, refl, sym, ◌∙◌, ap, subst, append_assoc, arith, take-append-drop}
 use Rattle.std.specs.Prelude.{decimal, ◌==◌, take_while}
 use Rattle.std.specs.List.{list_all, prefix_len, All}

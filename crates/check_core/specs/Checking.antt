@@ -1,4 +1,5 @@
--- The verdict on the reply to each line of a trace, how a check ends, what it shows, and when memory may run out.
+-- The verdict on the reply to each line of a trace, how a check ends, what it shows, and when memory may run out. The reading of
+-- a line is its event or its fault, or `Ok None` for a blank line or a comment.
 use Rattle.std.specs.Prelude.{◌≡◌, ℕ, suc, ◌-◌, Bool, true, false, List, [], ◌∷◌, ◌++◌, length, Option, Some, None, Result, Ok, Err, ◌⊎◌}
 use Rattle.promise_core.specs.declared.promise.Promise.{Promise}
 use Rattle.words_core.specs.declared.event.Event.{Event}
@@ -18,14 +19,14 @@ use Rattle.check_core.specs.Finding.{after_lines, finding_of, lines_at, lines_to
 use Rattle.check_core.specs.Gathered.{Gathers}
 use Rattle.check_core.specs.Reading.{HasEnded, MayFollow, Source, readings_of}
 
--- these bytes were gathered, and they are exactly this many whole lines
+-- the bytes `came` were gathered, and they are exactly `lines` whole lines
 pub record HasGathered (lines : ℕ) (came : List ℕ) (text : Gathered MOST_TEXT_BYTES) : Type 0 where
   pub are : lines_at lines came ≡ Some (came, [])
   pub gathers : Gathers MOST_TEXT_BYTES came text
 
--- The verdict on the reply to a line with this reading, if `part` is what was read of the replies. It does not depend on the
--- bytes after `part`. If the reply is allowed, its lines are `part`, the verdict is their number, and the machine shows what is
--- known after the reply. Otherwise the verdict is the first promise that the reply breaks.
+-- The verdict on the reply to a line with this reading, if `part` is what was read of the replies. The verdict does not depend on
+-- the bytes after `part`. If the reply is allowed, its lines are `part`, the verdict is their number, and the machine shows what
+-- is known after the reply. Otherwise the verdict is the first promise that the reply breaks.
 abbrev pub IsLineVerdict : Result ℕ Promise → Result (Option Event) LineFault → List ℕ → Known → SeenMachine → Source → Type 0
 IsLineVerdict (Ok lines) reading part w new replies = (lines ≡ lines_to reading w) × (lines_at lines part ≡ Some (part, []))
     × ((after : Known) × ShowsKnown new after × ((more : List ℕ) → verdict_at reading (part ++ more) w ≡ Ok after))
@@ -81,7 +82,7 @@ IsStoppedBy Unchecked.Trace unread untold short = (unread ≡ true) × (untold �
 IsStoppedBy Unchecked.Replies unread untold short = (unread ≡ false) × (untold ≡ true)
 IsStoppedBy Unchecked.Memory unread untold short = (unread ≡ false) × (untold ≡ false) × short
 
--- how a call ended: neither reader failed, or the call was stopped by this error
+-- how a call ended: it returned `Ok` and neither reader failed, or the error that it returned stopped it
 abbrev pub IsEndedBy : {A : Type 0} → Result A Unchecked → (unread untold : Bool) → (short : Type 0) → Type 0
 IsEndedBy (Ok done) unread untold short = (unread ≡ false) × (untold ≡ false)
 IsEndedBy (Err why) unread untold short = IsStoppedBy why unread untold short
@@ -93,7 +94,7 @@ AddsAt (Ok (Some event)) bytes w = (reply : Reply) × (after : Known) × (reply_
 AddsAt (Ok None) bytes w = ⊥
 AddsAt (Err fault) bytes w = ⊥
 
--- the reply to one of these lines adds something, and all replies up to that one are allowed
+-- the reply to one of these lines adds something, and this reply and all earlier replies are allowed
 abbrev pub ComesToAdd : List (Result (Option Event) LineFault) → List ℕ → Known → Type 0
 ComesToAdd [] bytes w = ⊥
 ComesToAdd (reading ∷ readings) bytes w = AddsAt reading bytes w

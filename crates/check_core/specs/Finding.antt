@@ -1,4 +1,5 @@
--- The finding for a trace and its replies, as a function of their texts.
+-- The finding for a trace and its replies, as a function of their texts. The reading of a line is its event or its fault, or
+-- `Ok None` for a blank line or a comment.
 use Rattle.std.specs.Prelude.{ℕ, zero, suc, ◌+◌, ◌==◌, Bool, false, if◌then◌else◌, List, [], ◌∷◌, ◌++◌, length, slice_get, nat_le, nat_lt, find, Option, Some, None, Result, Ok, Err, unwrap_or}
 use Rattle.std.specs.Option.{option_map_or}
 use Rattle.std.specs.Result.{result_err}
@@ -39,7 +40,7 @@ lines_at (suc k) bytes = do
   last ← line_at front.1
   Some (front.0 ++ last.0, last.1)
 
--- the bytes that follow the first `k` lines, if there are that many
+-- the bytes that follow the first `k` lines, or no bytes if there are fewer than `k` lines
 abbrev pub after_lines : ℕ → List ℕ → List ℕ
 after_lines k bytes = option_map_or (λ found. found.1) (lines_at k bytes) []
 
@@ -123,7 +124,8 @@ lines_to (Ok None) w = 0
 lines_to (Err fault) w = 1
 lines_to (Ok (Some event)) w = suc (more_lines event w)
 
--- if a promise is broken, the finding has these line numbers of the two texts; otherwise the check continues
+-- if the result is a broken promise, the finding is `Broken` with these line numbers of the two texts; otherwise `more` gives the
+-- finding from the state after the reply
 abbrev pub or_broken : Result Known Promise → ℕ → ℕ → (Known → Finding) → Finding
 or_broken (Ok after) line reply more = more after
 or_broken (Err promise) line reply more = Finding.Broken (record { line = line; reply = reply; promise = promise })

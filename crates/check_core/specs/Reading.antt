@@ -19,7 +19,7 @@ pub record Source : Type 0 where
 abbrev pub HasEnded : Source → Type 0
 HasEnded source = (source.ended ≡ true) × IsAtEnd source.left
 
--- a source gave these bytes, counted each one, and gave none after its end
+-- a source gave these bytes, lowered `room` by 1 for each byte, and gave no byte after its end
 pub record HasGiven (old new : Source) (given : List ℕ) : Type 0 where
   pub bytes : Consumes old.left new.left given
   pub count : new.room + length given ≡ old.room

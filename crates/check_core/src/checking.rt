@@ -32,13 +32,13 @@ pub fn check<T: Feed, R: Feed>(
     requires trace_fine { trace.old.failed ≡ false }
     requires replies_fine { replies.old.failed ≡ false }
     // `asked` and `told` are what was read of the trace and of the replies. All pairs of texts that begin with `asked` and `told`
-    // have this finding. If it is a breach, its line and its reply are shown.
+    // have the returned finding. If the finding is a breach, its line and its reply are shown.
     ensures found { (asked : List ℕ) × (told : List ℕ) × HasGiven trace.old trace.new asked × HasGiven replies.old replies.new told
         × ((w : Known) → ShowsKnown machine.old w → IfOk result (λ finding. WhateverFollows trace.new replies.new asked told
         (λ trace replies. finding ≡ finding_of w trace replies)))
         × ((w : Known) → ShowsKnown machine.old w → IfOk result (λ finding. ShowsFinding w finding asked told shown.new)) }
     ensures kept { IfOk result (λ finding. IsKeptAtEnd finding trace.new replies.new) }
-    // Memory runs out only if an allowed reply adds something and no promise was broken before it.
+    // Memory runs out only if an allowed reply adds something and no earlier reply broke a promise.
     ensures end { IsEndedBy result trace.new.failed replies.new.failed ((asked : List ℕ) × (told : List ℕ)
         × HasGiven trace.old trace.new asked × HasGiven replies.old replies.new told
         × ((w : Known) → ShowsKnown machine.old w → WhateverFollows trace.new replies.new asked told

@@ -8,7 +8,7 @@ pub fn kept_is_allowed()
     ensures { KeptIsAllowed }
 {}
 
-/// If the finding is `Broken`, the replies before the breach are allowed. The text from the breach on does not begin with an
+/// If the finding is `Broken`, the replies before the breach are allowed. The text that follows them does not begin with an
 /// allowed reply whose numbers fit the types of `Reply`.
 pub fn broken_is_not_allowed()
     ensures { BrokenIsNotAllowed }

@@ -1,7 +1,8 @@
 //! Checks the replies to a trace. `specs/` defines the finding for the texts of a trace and of its replies. `check` reads one
 //! line of the trace at a time, and then its reply, and returns the finding.
 //!
-//! If a text is the text of a reply, it is read as this reply. Any other text is not a reply.
+//! Reading is the inverse of writing: the text that is written for a reply is read as the same reply. Any other text is not read
+//! as a reply.
 #![tactic(auto)]
 
 mod answer;

@@ -95,7 +95,8 @@ impl<F: Feed> LineReader<F> {
     }
 
     /// Reads the next line of a trace, adds it to `into`, and returns its event. Returns `None` and reads nothing if the line is
-    /// not a quick request, or if too few bytes have been pulled to read it as one.
+    /// not a quick request, which is a request that `quick_core` reads. It also returns `None` if too few bytes have been pulled
+    /// for `quick_core` to read the line.
     #[inline(always)]
     pub fn next_event<const N: usize>(&mut self, into: &mut Gathered<N>) -> Option<Event>
         ensures reading { IfSome result (λ event. (part : List ℕ) × HasGiven self.old self.new part

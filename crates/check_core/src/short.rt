@@ -1,4 +1,4 @@
-//! Converts quick requests to events.
+//! Converts quick requests, which `quick_core` reads from frequent lines, to events.
 
 ghost use Rattle.std.specs.Prelude.{◌≡◌, ◌≤◌, length};
 ghost use Rattle.words_core.specs.Requests.{command_of, IsAskable};
@@ -8,7 +8,7 @@ use arrayvec::ArrayVec;
 use quick_core::RequestLine;
 use words_core::{Command, Event, Request};
 
-/// Returns the event of a line from the quick reader.
+/// Returns the event of a line that `quick_core` has read.
 pub(crate) fn event_of(line: RequestLine<'_>) -> Event
     requires { IsAskable line.request }
     ensures { result ≡ Tenant line.entry.tenant (command_of line.entry.request) }

@@ -75,7 +75,8 @@ IsReportedAs kind Outcome.BadOnly = ⊥
 abbrev pub HasFault : Kinds → Type 0
 HasFault kinds = (kind : ErrorKind) × IsAmong kind kinds × (kind ≢ ErrorKind.DisplayHelp) × (kind ≢ ErrorKind.DisplayVersion)
 
--- a program may end with this outcome if the parser refuses the words for one of these kinds; `NoMemory` is always possible
+-- a program may end with this outcome if the parser refuses the words with an error of one of these kinds; `NoMemory` is always
+-- possible
 abbrev pub IsRefusedBy : Kinds → Outcome → Type 0
 IsRefusedBy kinds (Outcome.Help text) = IsAmong ErrorKind.DisplayHelp kinds
 IsRefusedBy kinds (Outcome.Version text) = IsAmong ErrorKind.DisplayVersion kinds
@@ -86,7 +87,7 @@ IsRefusedBy kinds Outcome.Unreadable = ⊥
 IsRefusedBy kinds Outcome.Unwritable = ⊥
 IsRefusedBy kinds Outcome.BadOnly = ⊥
 
--- if the words are parsed, there is no kind of error; if they are refused, the outcome is possible for these kinds
+-- if the words are parsed, the list of kinds is empty; if they are refused, the outcome is possible for an error of these kinds
 abbrev pub IsParsedBy : {T : Type 0} → Kinds → Result T Outcome → Type 0
 IsParsedBy kinds parsed = MatchResult parsed (λ _. kinds ≡ []) (IsRefusedBy kinds)
 

@@ -66,8 +66,8 @@ own_beside_text = codes "error: --own goes with neither --only nor --tally\n"
 abbrev pub own_no_tenant_text : Text
 own_no_tenant_text = codes "partmem: --own names no tenant\n"
 
--- why `--own` is refused for this machine: it is given beside `--only` or `--tally`, or otherwise it names no tenant of the
--- machine
+-- why `--own` is refused for this machine: it is given beside `--only` or `--tally`, or it is given without them and names no
+-- tenant of the machine
 abbrev pub IsNoOwn : (Text → Option Text) → MachineOptions → Bool → Outcome → Type 0
 IsNoOwn read machine tally outcome = (tenant : ℕ) × Writes (read (codes "own")) tenant
     × (((¬ IsAlone (Some tenant) machine.only tally) × IsBadLine own_beside_text outcome)

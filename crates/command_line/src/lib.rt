@@ -2,9 +2,9 @@
 //! and the end of the program. The parser of `partmem`'s own command line, [`read_words`], is here too, so that tests can call
 //! it.
 //!
-//! A program that runs a trace has the arguments of `command`, or of `sizes_command` if it has no `--only`, and adds its own with
-//! `Command::arg`. From the matches it reads the machine with `MachineOptions::found`, or the sizes with `sizes_found`, and then
-//! its own arguments.
+//! A program that runs a trace has the arguments of `command`, or of `sizes_command` if it has no `--only`. It adds its own
+//! arguments with `Command::arg`. From the matches it reads the machine with `MachineOptions::found`, or the sizes with
+//! `sizes_found`, and then its own arguments.
 #![tactic(auto)]
 
 mod arguments;

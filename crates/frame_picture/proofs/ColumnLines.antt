@@ -1,4 +1,4 @@
--- After each line, the columns stay even, and at the end they are complete.
+-- After each line, the columns stay even (`IsEven`), and at the end they are complete (`IsComplete`).
 use Rattle.std.proofs.Common.{◌≡◌, ◌≢◌, ℕ, ◌+◌, ◌*◌, ◌/◌, ◌%◌, ◌<◌, ◌≤◌, min, List, Some, length, slice_get, subst, sym, ◌∙◌, ap, arith, ◌⊎◌, inl, inr}
 use Rattle.std.proofs.Math.Nat.{mul-le-mul_right, mul-mod_left}
 use Rattle.std.proofs.lemmas.Bool.{cases_order}
@@ -59,8 +59,8 @@ last_multiple n w l pos some all zero =
     let e : q ≡ n = omega arith in
     sym is ∙ ap (λ x. x * w) e
 
--- If l lines fill n columns but not n + 1, and lines are left over, they also fill n / 2 columns of twice the width. Lines are
--- left over then too, and one more column is enough for these.
+-- Suppose that l lines fill n columns but not n + 1, and that lines are left over. Then the l lines also fill n / 2 columns of
+-- twice the width. Again lines are left over, and one more column is enough for them.
 half_within : (n h w l : ℕ) → n * w < l → l < (n + 1) * w → h ≡ n / 2 → (h * (2 * w) < l) × (l ≤ (h + 1) * (2 * w))
 half_within n h w l some all half = go (cases_order n (2 * h))
   where
@@ -76,8 +76,8 @@ half_within n h w l some all half = go (cases_order n (2 * h))
         let to : l < (2 * h + 1 + 1) * w = subst (λ x. l < (x + 1) * w) e all in
         (omega arith, omega arith)
 
--- Let column i of the old columns be for line (i + 1) * w, and let 1 to w lines be left over behind them. If one more column, for
--- the last line, is added, the columns are complete.
+-- Suppose that column i of the old columns is for line (i + 1) * w, and that 1 to w lines are left over after these columns. If
+-- one more column, for the last line, is added, the columns are complete.
 completes : (columns more : List Column) (w l : ℕ) → length columns * w < l → l ≤ (length columns + 1) * w
     → ((i : ℕ) (column : Column) → slice_get columns i ≡ Some column → column.line ≡ (i + 1) * w)
     → length more ≡ length columns + 1 → ((i : ℕ) → i < length columns → slice_get more i ≡ slice_get columns i)

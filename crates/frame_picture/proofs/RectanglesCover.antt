@@ -173,8 +173,9 @@ module _ (columns : List (List Tone)) (tone : Tone) (rows : ℕ) (rectangles : L
       let run : run_at tone (take rows cells) r.row ≡ r.rows = sym (runs_here r.row) ∙ rectangle.same column has.left has.right in
       run_has_tone tone (take rows cells) r.row row cell has.lower (omega (arith, has.upper, run)) (read_here cell)
 
-  -- Let a run that begins at row `first` of the column contain the cell. Let each column from this one to e - 1 have an equal run
-  -- at row `first`, but not column e. Then a rectangle that ends before column e contains the cell.
+  -- Suppose that a run that begins at row `first` of the column contains the cell. Suppose also that each column from this one to
+  -- e - 1 has an equal run at row `first`, and that column e does not. Then a rectangle that ends before column e contains the
+  -- cell.
   ends_there : (first e : ℕ) → first ≤ row → row < first + run_in columns tone rows first column
       → IsUntil (run_in columns tone rows first) (run_in columns tone rows first column) (length columns) column e
       → GoesOn (run_in columns tone rows first) (length columns) e ⊎ Any (λ r. (r.row ≡ first) × (r.column + r.columns ≡ e)) rectangles
@@ -286,8 +287,9 @@ rectangles_on columns tone rows height from mid to front back le before after = 
         ahead (inl on) = inl on
         ahead (inr any) = inr (any_before (λ r. (r.row ≡ row) × (r.column + r.columns ≡ end)) front back any)
 
--- If `rectangles` are all that begin below row `height` and end before column `end`, and r begins in row `height` and ends before
--- column `end` too, then with r they are all that begin below row height + 1 and end before column `end`.
+-- If `rectangles` are all rectangles that begin below row `height` and end before column `end`, and rectangle r begins in row
+-- `height` and ends before column `end`, then `rectangles` and r are all rectangles that begin below row height + 1 and end
+-- before column `end`.
 pub row_with : (columns : List (List Tone)) (tone : Tone) (rows height end : ℕ) (rectangles : List Rectangle) (r : Rectangle) → r.row ≡ height
     → IsRectangle (run_in columns tone rows height) (length columns) end r → AreRectangles columns tone rows height (end - 1) end rectangles
     → AreRectangles columns tone rows (height + 1) (end - 1) end (rectangles ++ r ∷ [])
@@ -329,8 +331,9 @@ row_with columns tone rows height end rectangles r top_row rectangle are = recor
     split at row above upto less (inr top) =
         inr (Any-push (λ x. (x.row ≡ row) × (x.column + x.columns ≡ at)) rectangles r (omega (arith, top_row), omega (arith, ends)))
 
--- If `rectangles` are all that begin below row `height` and end before column `end`, and none that begins in row `height` ends
--- before column `end`, they are also all that begin below row height + 1 and end before column `end`.
+-- If `rectangles` are all rectangles that begin below row `height` and end before column `end`, and no rectangle that begins in
+-- row `height` ends before column `end`, then `rectangles` are also all rectangles that begin below row height + 1 and end before
+-- column `end`.
 pub row_without : (columns : List (List Tone)) (tone : Tone) (rows height end : ℕ) (rectangles : List Rectangle)
     → GoesOn (run_in columns tone rows height) (length columns) end → AreRectangles columns tone rows height (end - 1) end rectangles
     → AreRectangles columns tone rows (height + 1) (end - 1) end rectangles

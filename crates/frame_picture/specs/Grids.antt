@@ -8,7 +8,8 @@ use Rattle.frame_picture.specs.declared.grid.Grid.{Grid}
 use Rattle.frame_picture.specs.declared.history.History.{History}
 
 -- The grid shows all slots up to the greatest one that the tenant held in any column, and at least one slot. The number of frames
--- in a row is the least power of two that gives at most `most_rows` rows. If 2^15 frames are too few, all frames are one row.
+-- in a row is the least power of two that gives at most `most_rows` rows. If even 2^15 frames in a row give more rows, all frames
+-- are one row.
 pub record IsGridOf (history : History) (t most_rows : ℕ) (grid : Grid) : Type 0 where
   pub order : grid.order ≡ drawn_order history
   pub slots : ℕ

@@ -20,8 +20,8 @@ run_at tone cells row = if goes_on tone cells row then 0 else prefix_len (is_ton
 abbrev pub run_in : List (List Tone) → Tone → ℕ → ℕ → ℕ → ℕ
 run_in columns tone rows row column = run_at tone (take rows (slice_index_or columns column [])) row
 
--- Rectangle r ends before column `end`. At its lowest row, each of its columns has a run as high as r, and the columns beside it
--- do not. `columns` is the number of all columns.
+-- Rectangle r ends before column `end`. At its lowest row, each of its columns has a run as high as r, and the columns to the
+-- left and to the right of r do not. `columns` is the number of all columns.
 pub record IsRectangle (runs : ℕ → ℕ) (columns end : ℕ) (r : Rectangle) : Type 0 where
   pub ends : r.column + r.columns ≡ end
   pub wide : 0 < r.columns

@@ -16,7 +16,8 @@ pub struct Grid {
     /// The number of frames shown: the frames of the slots up to the greatest one that the tenant holds in any column. At least
     /// one slot is shown.
     pub frames: u32,
-    /// The number of frames in a row: a power of two, or all frames if 2^15 frames are too few. The last row may have fewer.
+    /// The number of frames in a row: a power of two up to 2^15, or all frames if even 2^15 frames in a row give too many rows.
+    /// The last row may have fewer frames.
     pub frames_per_row: u32,
     /// The number of rows.
     pub rows: u32,
@@ -60,7 +61,7 @@ impl Grid {
     }
 
     /// Returns the distance between marks, in slots: the least power of two that gives at most `most_marks` marks. The first mark
-    /// is at slot 0. If 2^15 slots are too few, the distance is so large that only this mark is left.
+    /// is at slot 0. If even a distance of 2^15 slots gives more marks, the result is so large that only the first mark is left.
     pub fn slots_between(self, most_marks: u32) -> u32
         requires { 0 < most_marks }
         ensures some { 0 < result }
@@ -92,8 +93,8 @@ impl Grid {
     }
 }
 
-/// Returns the number of frames in a row: the least power of two that gives at most `most_rows` rows for `frames` frames. If 2^15
-/// frames are too few, all frames are one row.
+/// Returns the number of frames in a row: the least power of two that gives at most `most_rows` rows for `frames` frames. If even
+/// 2^15 frames in a row give more rows, all frames are one row.
 fn frames_per_row(frames: u32, most_rows: u32) -> u32
     requires { 0 < most_rows }
     ensures some { 0 < result }

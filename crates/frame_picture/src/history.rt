@@ -51,7 +51,7 @@ pub struct Column {
 /// The states of a machine over a trace, in a fixed number of columns, each with the same number of lines.
 ///
 /// The length of the trace is unknown before its end, and a pipe cannot be read twice. So each line has its own column at first.
-/// Whenever all columns are in use, every second one is dropped, and each column has twice as many lines from then on. A history
+/// Whenever all columns are in use, every second one is dropped, and each column then has twice as many lines. A history
 /// allocates nothing after it is made, for traces of any length.
 #[derive(Debug, Drop)]
 pub struct History {
@@ -174,9 +174,9 @@ impl History {
         }
     }
 
-    /// Counts one more line, which the kernel has just run. If the number of lines is then a multiple of the width but all
-    /// columns are in use, every second column is dropped and the width doubles. If the number of lines is still a multiple of
-    /// the width, the next column gets the state of the kernel.
+    /// Counts one more line, which the kernel has just run. If the new number of lines is a multiple of the width and all columns
+    /// are in use, every second column is dropped and the width doubles. After that, if the number of lines is a multiple of the
+    /// width, the next column gets the state of the kernel.
     pub fn add_line(&mut self, kernel: &Kernel)
         ensures counted { line_count self.old < u32.MAX → line_count self.new ≡ line_count self.old + 1 }
         ensures sizes { SameShape self.old self.new }

@@ -16,7 +16,8 @@ pub struct OwnSheets {
     /// The indices of the tenant's first sheets, in ascending order. Only the first `len` entries are used.
     pub listed: [u16; MOST_LISTED],
     pub len: usize,
-    /// Sheets from this index on were not searched. On a machine within its limits, none of these is the tenant's.
+    /// The index of the first sheet that was not searched. On a machine within its limits, neither this sheet nor a later one is
+    /// the tenant's.
     pub rest: usize,
 }
 

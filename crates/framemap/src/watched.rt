@@ -21,8 +21,8 @@ pub struct Watched {
 }
 
 impl Watched {
-    /// Runs the quick requests at the front of a piece, and returns the rest of the piece. The lines end in LF, or in CR LF if
-    /// `RETURNS`.
+    /// Runs the quick requests at the front of a piece, and returns the rest of the piece. A quick request is a request that
+    /// `quick_core` reads. Its line ends in LF, or in CR LF if `RETURNS` is true.
     fn watch_requests<'a, const RETURNS: bool>(
         &mut self,
         piece: &'a [u8],
@@ -79,7 +79,7 @@ impl Sink for Watched {
         kernel: &mut Kernel,
         _drain: &mut D,
     ) -> Result<&'a [u8], Stopped> {
-        // The count fits its type.
+        // Only for the proof: the number of events fits its type.
         let _events = self.events;
         if returns {
             Ok(self.watch_requests::<CR_LF>(piece, kernel))

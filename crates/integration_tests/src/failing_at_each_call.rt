@@ -69,7 +69,7 @@ fn fails_at_each_call(
 ///
 /// Checks that the pushed bytes are a beginning of the trace's output, and as many as the tally says. Then the kernel runs the
 /// lines that the tally does not count. After a failed feed, their output is the rest of the trace's output. After a failed
-/// drain, it is only the rest after the reply that was cut.
+/// drain, their output is only the part of the trace's output that follows the reply that was cut.
 fn is_done_after(
     rt: &(impl AllocGlobal + Abort),
     table: &Table,

@@ -21,7 +21,7 @@ const NOISE: [&[u8]; 7] = [
     b"admin reset 1\n",
 ];
 
-/// Commands about the tenant itself, whose replies go only to the administrator.
+/// Commands of the administrator about tenant 0. Their replies go only to the administrator.
 const QUIET: [&[u8]; 2] = [b"admin takeback 0 1\n", b"admin move 0 0\n"];
 
 /// Returns the trace `alone` with all lines of `noise` in each gap from `first` to `last`.
@@ -66,9 +66,9 @@ fn is_told_alike(
     begins_alike(rt, &trace, alone.output)
 }
 
-/// Checks the replies to tenant 0 for each beginning of a trace. If the beginning ends with a line feed, they are a beginning of
-/// the whole output. If its last line is cut, they begin with the replies to the lines before it. A cut line may have a reply
-/// too.
+/// Checks the replies to tenant 0 for the first bytes of a trace, for each number of bytes. If these bytes end with a line feed,
+/// the replies are a beginning of the whole output. If the last line is cut, the replies begin with those to the lines before
+/// this line. A cut line may have a reply too.
 fn begins_alike(rt: &(impl AllocGlobal + Abort), trace: &[u8], output: &[u8]) -> Result<(), Fail> {
     let (mut ended, _) = replayed(rt.alloc(), MACHINE, b"", WHOLE, Some(0))?;
     for len in 0..=trace.len() {

@@ -1,5 +1,5 @@
-//! Lines that the quick reader must read. The proofs say that each line that it reads is read correctly, but not that it reads
-//! these lines.
+//! Lines that the quick reader, `quick_core`, must read. The proofs say that each line that it reads is read correctly, but not
+//! that it reads these lines.
 
 use model_core::limits::MOST_BYTES;
 use quick_core::{WINDOW, read_request};

@@ -39,12 +39,12 @@ pub struct Row {
     pub output: &'static [u8],
 }
 
-/// Rows that run on machines of the same sizes, with the output for the same tenant or for all.
+/// Rows that run on machines of the same sizes. Their outputs are all for the same tenant, or all for all tenants.
 #[derive(Clone, Copy, Debug)]
 pub struct Table {
     pub name: &'static str,
     pub config: Config,
-    /// The tenant whose lines alone are written. `None` writes all lines.
+    /// The only tenant whose lines are written. `None` means that all lines are written.
     pub only: Option<u8>,
     pub rows: &'static [Row],
 }

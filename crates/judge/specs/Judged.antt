@@ -28,8 +28,8 @@ abbrev pub verdict_on : Event → Body → Known → State → Result (Unit {0})
 verdict_on event body w s = broken ((Promise.Form, is_some (state_after w.order event body s))
     ∷ drop 1 (kept event (record { addressee = Addressee.Nobody; body = body }) w s))
 
--- the verdict on a refusal; `due` is the refusal that must come, if any; `full` says whether `NoFrames` may come, and `busy`
--- whether `SlotBusy` may
+-- the verdict on a refusal; `due` is the refusal that must come, if any; `full` says whether the refusal may be `NoFrames`, and
+-- `busy` says whether it may be `SlotBusy`
 abbrev pub on_refusal : Refusal → Option Refusal → Bool → Bool → Result (Unit {0}) Promise
 on_refusal refusal due full busy = broken (
     (Promise.Refusals, option_map_or (is_one refusal) due (is_one refusal Refusal.NoFrames || is_one refusal Refusal.SlotBusy))
@@ -41,7 +41,7 @@ abbrev pub only_verdict : {A : Type 0} → Result A Promise → Result (Unit {0}
 only_verdict (Ok _) = Ok tt
 only_verdict (Err promise) = Err promise
 
--- the verdict, with a broken promise as a failure
+-- the verdict as a result whose error is a `Failure`; a broken promise becomes `Broken`
 abbrev pub failing : Result (Unit {0}) Promise → Result (Unit {0}) Failure
 failing (Ok _) = Ok tt
 failing (Err promise) = Err (Failure.Broken promise)
@@ -60,8 +60,9 @@ pub record IsFollowed (event : Event) (body : Body) (w : Known) (old new : Seen)
   pub order : new.left.order ≡ old.left.order
   pub state : state_after old.left.order event body (state_of old) ≡ Some (state_of new)
 
--- If the result is `Ok`, the reply is followed. If it is a failure, the tenant is unchanged. The failure is the first promise
--- that the reply breaks, or says that memory ran out for what an allowed reply adds.
+-- If the result is `Ok`, the reply keeps every promise, and `new` is the tenant after the reply. If the result is a failure, the
+-- tenant is unchanged. The failure is the first promise that the reply breaks, or it says that memory ran out for what an allowed
+-- reply adds.
 abbrev pub IsVerdictFor : Event → Body → Known → Seen → Seen → Result (Unit {0}) Failure → Type 0
 IsVerdictFor event body w old new (Ok _) = IsFollowed event body w old new
 IsVerdictFor event body w old new (Err (Failure.Broken promise)) = (tenant_verdict event body w old ≡ Err promise) × (new ≡ old)
@@ -78,7 +79,7 @@ AreOwnersAfter event body old new (Ok _) = new ≡ owners_after event body old
 AreOwnersAfter event body old new (Err failure) = new ≡ old
 
 -- The result is the verdict on the reply. After `Ok`, `new` is the machine after the allowed reply, and has the same sizes. After
--- a failure, the machine is unchanged; if memory ran out, the reply is an allowed addition.
+-- a failure, the machine is unchanged. If memory ran out, the reply is allowed and adds something to the state.
 abbrev pub IsJudged : Event → Reply → SeenMachine → SeenMachine → Result (Unit {0}) Failure → Type 0
 IsJudged event reply old new (Ok _) = (allowed event reply (known_of old) ≡ Ok (known_of new)) × KeepsSizes old new
 IsJudged event reply old new (Err (Failure.Broken promise)) = (allowed event reply (known_of old) ≡ Err promise) × (new ≡ old)

@@ -28,8 +28,8 @@ pub record IsOpeningTenant (order : ℕ) (x : Seen) : Type 0 where
 abbrev pub AreNumbered : Holdings → Type 0
 AreNumbered h = (c : KnownCache) → IsIn c h.caches → c.number < MOST_CACHES
 
--- Shadow memory has exactly the held slots. Page blocks and slabs are in held slots and share no frame, live objects are on a
--- grid of their slab, and the numbers of caches are below the limit.
+-- Shadow memory has exactly the held slots. Page blocks and slabs are in held slots and share no frame. In each slab, the live
+-- objects begin at multiples of the chunk from one aligned origin. The numbers of caches are below the limit.
 pub record LieInSlots (h : Holdings) (left : Left) : Type 0 where
   pub sized : left.order ≤ MOST_ORDER
   pub slots : (u : ℕ) → list_any (λ v. v == u) (left_slots left) ≡ has_slot h u

@@ -1,4 +1,5 @@
-//! Answers to commands of the administrator about a tenant. `owners` has the owner of each superblock.
+//! Answers to commands of the administrator about a tenant. An answer that keeps every promise is followed: it updates the state.
+//! `owners` has the owner of each superblock.
 
 ghost use Rattle.std.specs.Prelude.{◌≡◌, ◌≤◌, ◌<◌, ◌+◌, ◌*◌, ◌^◌, nat_le, ◌&&◌, ◌||◌, ℕ, false, not, slice_index_or};
 ghost use Rattle.std.specs.List.{list_any};

@@ -1,4 +1,4 @@
-//! Answers to commands about bytes.
+//! Answers to commands about bytes. An answer that keeps every promise is followed: it updates the state.
 
 ghost use Rattle.std.specs.Prelude.{◌≡◌, ◌≤◌, ◌<◌, ◌&&◌, nat_le, ℕ, Some, IfOk, length};
 ghost use Rattle.words_core.specs.declared.event.Event.TheVariants as On;
@@ -17,7 +17,7 @@ use model_core::limits::MOST_BYTES;
 use promise_core::promise::Promise;
 
 impl Tenant {
-    /// Judges and follows an answer with these bytes to a read of `len` bytes from `place` on.
+    /// Judges and follows an answer with these bytes. The command is a read of the `len` bytes that begin at `place`.
     pub(crate) fn read_bytes(&mut self, place: u32, len: u32, bytes: &[u8]) -> Result<(), Failure>
         ensures { (t : ℕ) (w : Known) → IsVerdictFor (On.Tenant t (Command.Read place len))
             (Say.Bytes (record { items = bytes.now })) w self.old self.new result }
@@ -49,7 +49,7 @@ impl Tenant {
         Ok(holder)
     }
 
-    /// Judges and follows the answer that `count` bytes were written. The command is a write of these bytes from `place` on.
+    /// Judges and follows the answer that `count` bytes were written. The command is a write of `bytes` that begins at `place`.
     pub(crate) fn write_bytes(
         &mut self,
         place: u32,

@@ -1,4 +1,5 @@
-//! Answers to commands that make or destroy a cache, or reap the empty slabs of all caches.
+//! Answers to commands that make or destroy a cache, or reap the empty slabs of all caches. An answer that keeps every promise is
+//! followed: it updates the state.
 
 ghost use Rattle.std.specs.Prelude.{◌≡◌, ℕ, ◌+◌, ◌*◌, ◌%◌, ◌^◌, ◌≤◌, ◌<◌, ◌==◌, ◌&&◌, nat_lt, None, true, false, filter, is_none, slice_index_or};
 ghost use Rattle.std.specs.List.{list_any};

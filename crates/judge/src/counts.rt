@@ -81,7 +81,8 @@ pub(crate) fn greatest(counts: &[u32], end: u8) -> Option<u8>
 }
 
 /// Returns the share of the free frames that lie outside one block of order `top`, in thousandths. `free` is the number of free
-/// frames, and `top` is the greatest order of a free block. Returns 0 if `top` is `None`, and otherwise 1000 if `free` is 0.
+/// frames, and `top` is the greatest order of a free block. Returns 0 if `top` is `None`. Returns 1000 if `top` is an order but
+/// `free` is 0.
 pub(crate) fn split_share(free: u32, top: Option<u8>) -> u32
     requires { IfSome top (λ k. k ≤ MOST_ORDER) }
     ensures { result ≡ share free top }

@@ -67,8 +67,8 @@ impl KnownMachine {
         }
     }
 
-    /// Judges an answer to an event that names no tenant, which is the pool command. Every answer breaks a promise: only a table
-    /// of owners is allowed, and a table is not an answer.
+    /// Judges an answer to an event that names no tenant. The only such event is the pool command, and the only reply that it
+    /// allows is a table of owners. An answer is a reply of one line and never a table, so every answer breaks a promise.
     fn judge_unnamed(
         &self,
         event: &Event,

@@ -1,4 +1,4 @@
-//! Answers to commands about objects.
+//! Answers to commands about objects. An answer that keeps every promise is followed: it updates the state.
 
 ghost use Rattle.std.specs.Prelude.{◌≡◌, ◌≤◌, ◌<◌, ℕ, Some, IfOk};
 ghost use Rattle.words_core.specs.declared.event.Event.TheVariants as On;

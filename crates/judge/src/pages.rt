@@ -1,4 +1,4 @@
-//! Answers to commands about page blocks.
+//! Answers to commands about page blocks. An answer that keeps every promise is followed: it updates the state.
 
 ghost use Rattle.std.specs.Prelude.{◌≡◌, ◌≤◌, ◌<◌, ℕ, IfOk};
 ghost use Rattle.model_core.specs.Blocks.{block};

@@ -1,5 +1,6 @@
-//! Verdicts on reports. Slots have `2^order` frames. `may_have_empty`, indexed by cache number, says which caches may have an
-//! empty slab. `told` is the last report, while it is valid.
+//! Verdicts on reports. A report that keeps every promise is followed: it is stored as the last report. Slots have `2^order`
+//! frames. `may_have_empty`, indexed by cache number, says which caches may have an empty slab. `told` is the last report, or
+//! `None` if there is none or if it is no longer valid.
 
 ghost use Rattle.std.specs.Prelude.{◌≡◌, ℕ, ◌+◌, ◌*◌, ◌^◌, ◌≤◌, ◌<◌, ◌==◌, ◌&&◌, nat_le, drop, length, slice_index, slice_index_or, false, true};
 ghost use Rattle.std.specs.List.{list_all, range_with_len, zip};
@@ -83,8 +84,9 @@ fn has_rows(held: &Held, order: u8, free: &[u32], rows: &[CacheRow]) -> bool
     free.len() == usize::from(order) + 1 && rows.len() == held.caches().len()
 }
 
-/// Returns whether the report's numbers of frames are right. Its frames must be those of the held slots, and the sum of its live
-/// and free frames. Its free frames must be those of the free blocks in its rows, and its live frames those of the taken blocks.
+/// Returns whether the report's numbers of frames are right. Its number of all frames must be the number of frames in the held
+/// slots, and the sum of its numbers of live and of free frames. Its number of free frames must be the number of frames in the
+/// free blocks of its rows, and its number of live frames the number of frames in the taken blocks of its rows.
 fn has_frames(held: &Held, order: u8, r: &Report, free: &[u32], taken: &[u32]) -> bool
     requires order { order ≤ MOST_ORDER }
     requires free { length free.now ≤ ORDERS }

@@ -18,7 +18,8 @@ use std::marker::Model;
 use words_core::{AdminCommand, Answer, CACHES, Command, Report};
 
 /// What replies reported about a tenant: its slots, page blocks, caches and objects, what was left at each place, which caches
-/// may have empty slabs, and the last report while it is valid.
+/// may have empty slabs, and the last report if it is still valid. An answer or a report that keeps every promise is followed: it
+/// updates this state.
 #[derive(Debug, Drop)]
 pub struct Tenant {
     pub(crate) alloc: Global,

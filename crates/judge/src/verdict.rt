@@ -12,7 +12,7 @@ use words_core::Refusal;
 /// `Ok` if a reply keeps every promise, or else the first promise that it breaks.
 pub type Verdict = Result<(), Promise>;
 
-/// Why a reply is not followed.
+/// Why a reply does not update the state.
 #[derive(Drop)]
 pub(crate) enum Failure {
     /// The reply breaks this promise.
@@ -37,15 +37,15 @@ impl From<AllocError> for Failure {
     }
 }
 
-/// Returns the verdict on an answer. `due` is the refusal that must come in its place, if any. `is_kept` says whether the answer
-/// keeps this promise.
+/// Returns the verdict on an answer. `due` is the refusal that must come instead of the answer, if any. `is_kept` says whether
+/// the answer keeps `promise`.
 pub(crate) fn on_answer(due: Option<Refusal>, promise: Promise, is_kept: bool) -> Verdict
     ensures { result ≡ broken ((Promise.Refusals, is_none due) ∷ (promise, is_kept) ∷ []) }
 {
     on_still_answer(due, promise, is_kept, true)
 }
 
-/// Returns the verdict on an answer that must also agree with the last report. `is_still` says whether it does.
+/// Does the same as [`on_answer`] for an answer that must also agree with the last report. `is_still` says whether it agrees.
 pub(crate) fn on_still_answer(
     due: Option<Refusal>,
     promise: Promise,
@@ -89,7 +89,7 @@ pub(crate) fn on_refusal(
     }
 }
 
-/// Returns the verdict, with a broken promise as a failure.
+/// Returns the verdict as a result whose error is a `Failure`. A broken promise becomes `Failure::Broken`.
 pub(crate) fn followed(verdict: Verdict) -> Result<(), Failure>
     ensures { result ≡ failing verdict }
 {

@@ -14,8 +14,9 @@ use Rattle.model_core.specs.Reach.{within_block}
 use Rattle.judge_core.specs.Inside.{ArePages}
 use Rattle.judge_core.proofs.RisingKeys.{any_kept, each_from, put_rises, put_behind}
 
--- Let every block that passes a test have its last frame at or after `begin` and its first frame before `end`. Then some page
--- block passes exactly if one whose first frame is from `low` to `end - 1` passes. Here `low` is `begin` + 1 - 2 ^ `longest`.
+-- Suppose that every block that passes a test has its last frame at or after `begin` and its first frame before `end`. Then some
+-- page block passes exactly if some page block passes whose first frame is from `low` to `end - 1`. Here `low` is
+-- `begin` + 1 - 2 ^ `longest`.
 pub near_part : (longest : ℕ) (pages : List Block) (begin end low : ℕ) → ArePages longest pages → low ≡ begin + 1 - 2 ^ longest → (test : Block → Bool)
     → ((b : Block) → test b ≡ true → (begin < b.first + 2 ^ b.order) × (b.first < end))
     → list_any test pages ≡ list_any test (filter (λ b. nat_le low b.first && nat_lt b.first end) pages)

@@ -13,7 +13,7 @@ use Rattle.model_core.specs.Machine.{put_rising}
 use Rattle.model_core.specs.WellFormed.{RisesFrom}
 use Rattle.model_core.proofs.Lists.{rises_above}
 
--- if the items before index `i` pass a test and all items from `i` on fail it, the prefix of items that pass has length `i`
+-- if the first `i` items of a list pass a test and all other items fail it, the prefix of items that pass has length `i`
 pub prefix_point : {X : Type 0} (p : X → Bool) (i : ℕ) (xs : List X) → i ≤ length xs
     → ((k : ℕ) (d : X) → k < i → p (get_or xs k d) ≡ true)
     → ((k : ℕ) (d : X) → i ≤ k → k < length xs → p (get_or xs k d) ≡ false) → prefix_len p xs ≡ i
@@ -104,8 +104,9 @@ module _ {X : Type 0} (key : X → ℕ) where
       go true e rest = ap (λ t. cond t (Some x) (find (is_from low) xs)) (lt-leb low (key x) (ltb-true _ _ e)) ∙ rest
       go false e rest = ap (λ t. cond t (Some x) (find (is_from low) xs)) (le-leb low (key x) (ltb-false _ _ e))
 
-  -- Let the test fail for each key below `low`. If it fails for an item whose key is at least `low`, let it also fail for every
-  -- item with the same or a larger key. Then a search with the test finds the first item whose key is at least `low`, or nothing.
+  -- Suppose that the test fails for each key below `low`. Suppose also that, if it fails for an item whose key is at least `low`,
+  -- it fails for every item with the same or a larger key. Then a search with the test finds the first item whose key is at least
+  -- `low`, or it finds nothing.
   pub first_decides : (low : ℕ) (test there : X → Bool) (xs : List X) → IsNonDecreasingBy key xs → ((x : X) → key x < low → test x ≡ false)
       → ((x : X) → low ≤ key x → test x ≡ there x) → ((x y : X) → low ≤ key x → key x ≤ key y → there x ≡ false → there y ≡ false)
       → find test xs ≡ option_map_or (λ x. cond (there x) (Some x) None) (find (is_from low) xs) None

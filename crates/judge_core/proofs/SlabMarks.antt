@@ -22,8 +22,9 @@ has_over_block x b = overlaps (block x 0) b
 abbrev pub has_over : KnownCache → ℕ → ℕ → Bool
 has_over c x p = overlaps (block x 0) (slab_around c p)
 
--- Let `a` be the first place of the aligned block of the cache's order around frame `first`. The slabs around live objects before
--- `a` contain no frame from `first` on, so a search for such a frame may skip these objects.
+-- Here `a` is the first place of the aligned block of the cache's order around frame `first`. The slabs around live objects
+-- before `a` end before frame `first`. So a search for a slab that contains frame `first` or a later frame may skip these
+-- objects.
 pub any_from : (c : KnownCache) (first x a : ℕ) (live : List ℕ) → a ≡ 4096 * (first / 2 ^ c.order * 2 ^ c.order) → first ≤ x
     → list_any (has_over c x) (drop (prefix_len (λ p. nat_lt p a) live) live) ≡ list_any (has_over c x) live
 any_from c first x a [] is_a from = refl
@@ -56,8 +57,8 @@ same_passed test p v (x ∷ xs) (same, all) = ap (λ ys. v || list_any test ys) 
     go true e rest = rest ∙ absorb v (test x) (list_any test xs) (same e)
     go false e rest = refl
 
--- `rest` has ascending places, and `b` is the end of the slab around its first place. All places of `rest` below `b` are in this
--- slab.
+-- `rest` has ascending places, and `b` is the end of the slab around the first place of `rest`. All places of `rest` below `b`
+-- are in this slab.
 module _ (c : KnownCache) (first b : ℕ) (rest : List ℕ) (rise : IsNonDecreasing rest) (some : 0 < length rest) (here : first ≡ get_or rest 0 first)
     (is_b : b ≡ 4096 * ((slab_around c first).first + 2 ^ c.order)) where
   later : (k d : ℕ) → k < length rest → first ≤ get_or rest k d

@@ -48,8 +48,8 @@ first_same k p q from below =
     let same : p / 4096 / 2 ^ k ≡ q / 4096 / 2 ^ k = omega (arith, up, down) in
     ap (λ (n : ℕ). n * 2 ^ k) same
 
--- Let the slab around `place` have the places from `a` to `b` - 1. Place p is one of them exactly if the slab around p has the
--- same first frame.
+-- Suppose that the slab around `place` has the places from `a` to `b` - 1. Then place p is one of these places exactly if the
+-- slab around p has the same first frame.
 pub in_slab : (c : KnownCache) (place a b p : ℕ) → a ≡ 4096 * (slab_around c place).first → b ≡ 4096 * ((slab_around c place).first + 2 ^ c.order)
     → (nat_le a p && nat_lt p b) ≡ ((slab_around c p).first == (slab_around c place).first)
 in_slab c place a b p is_a is_b = elim (cases_lt p a) [
@@ -64,8 +64,8 @@ in_slab c place a b p is_a is_b = elim (cases_lt p a) [
     own : (4096 * first_of c.order p ≤ p) × (p < 4096 * (first_of c.order p + 2 ^ c.order))
     own = place_inside c.order p
 
--- Let `a` be the first place of the aligned block of the cache's order around the first frame of block b. The slab around a place
--- before `a` does not overlap b.
+-- Here `a` is the first place of the aligned block of the cache's order around the first frame of block b. The slab around a
+-- place before `a` does not overlap b.
 pub ends_before : (c : KnownCache) (b : Block) (a p : ℕ) → a ≡ 4096 * (b.first / 2 ^ c.order * 2 ^ c.order) → p < a
     → overlaps b (slab_around c p) ≡ false
 ends_before c b a p is_a lt =
@@ -75,8 +75,8 @@ ends_before c b a p is_a lt =
     let first : b.first / 2 ^ c.order * 2 ^ c.order ≤ b.first = div-mul-le_self b.first (2 ^ c.order) in
     and_left _ _ (le-ltb b.first (first_of c.order p + 2 ^ c.order) (omega (arith, next, first)))
 
--- Let `a` be as above, and let p be a place from `a` on. If the slab around p does not overlap b, no slab around a later place
--- overlaps b.
+-- Here `a` is the same as in `ends_before`, and place p is not before `a`. If the slab around p does not overlap b, no slab
+-- around a later place overlaps b.
 begins_behind : (c : KnownCache) (b : Block) (a p q : ℕ) → a ≡ 4096 * (b.first / 2 ^ c.order * 2 ^ c.order) → a ≤ p → p ≤ q
     → overlaps b (slab_around c p) ≡ false → overlaps b (slab_around c q) ≡ false
 begins_behind c b a p q is_a from le off =
@@ -90,7 +90,8 @@ begins_behind c b a p q is_a from le off =
     let rises = first_rises c.order p q le in
     and_right _ _ (le-ltb (first_of c.order q) (b.first + 2 ^ b.order) (omega (arith, rises, ltb-false _ _ far)))
 
--- Let `a` be as above. The slab of some live object overlaps b exactly if the slab of the first live object from `a` on does.
+-- Here `a` is the same as in `ends_before`. The slab of some live object overlaps b exactly if the slab of the first live object
+-- that begins at or after `a` overlaps b.
 pub over_first : (c : KnownCache) (b : Block) (a : ℕ) → IsNonDecreasing c.live → a ≡ 4096 * (b.first / 2 ^ c.order * 2 ^ c.order)
     → list_any (λ p. overlaps b (slab_around c p)) c.live ≡ option_map_or (λ p. overlaps b (slab_around c p)) (find (λ p. nat_le a p) c.live) false
 over_first c b a rise is_a = sym (any_found over c.live)
@@ -108,8 +109,8 @@ over_first c b a rise is_a = sym (any_found over c.live)
         go true = refl
         go false = refl
 
--- Let `a` be `place` + `len` - `size`. An object of `size` bytes contains the `len` places from `place` on exactly if it begins
--- at a place from `a` to `place`.
+-- Here `a` is `place` + `len` - `size`. An object of `size` bytes contains the `len` places that begin at `place` exactly if the
+-- object begins at a place from `a` to `place`.
 pub has_range : (place len size a p : ℕ) → a ≡ place + len - size → (nat_le a p && nat_lt p (place + 1)) ≡ is_within place len p size
 has_range place len size a p is_a = elim (cases_lt place p) [
   | inl over ↦ and_right _ _ (le-ltb p (place + 1) (omega arith)) ∙ sym (and_left _ _ (lt-leb p place over))
@@ -131,8 +132,8 @@ pub none_below : (p : ℕ → Bool) (n : ℕ) → ((i : ℕ) → i < n → p i �
 none_below p zero fails = refl
 none_below p (suc n) fails = ap (λ (t : Bool). t || p n) (none_below p n (λ i lt. fails i (omega arith))) ∙ fails n (omega arith)
 
--- If the object at `place` can only have an index from `low` to `high - 1`, and the grid fits for none of these indices, then the
--- grid fits for no index.
+-- Suppose that the object at `place` can only have an index from `low` to `high - 1` in its slab. If the slab cannot have the
+-- live objects `beside` for any of these indices, it cannot have them for any index.
 pub on_no_grid : (c : KnownCache) (place low high : ℕ) (beside : List ℕ)
     → ((i : ℕ) → i < c.count → IsObjectAt c place i → (low ≤ i) × (i < high))
     → ((i : ℕ) → low ≤ i → i < high → (nat_le (i * c.chunk) place && is_grid c (slab_around c place) (place - i * c.chunk) beside) ≡ false)

@@ -1,5 +1,5 @@
--- The marks of a slot's blocks: the number of clear marks is the number of vacant blocks, and the marks of the two halves of a
--- block give the mark of the block.
+-- The marks of a slot's blocks: a mark is set if a frame of its block is taken, and clear if the block is vacant. The number of
+-- clear marks is the number of vacant blocks, and the marks of the two halves of a block give the mark of the block.
 use Rattle.std.proofs.Common.{◌≡◌, ℕ, zero, suc, ◌+◌, ◌-◌, ◌*◌, ◌^◌, ◌<◌, ◌≤◌, Bool, true, false, not, cond, List, [], ◌∷◌, length, get_or, take, inl, inr, refl, sym, ap, ◌∙◌, arith}
 use Rattle.std.specs.Prelude.{◌||◌, filter}
 use Rattle.std.specs.List.{list_any}
@@ -98,8 +98,8 @@ joined h order k u taken next less marks pair i in_slot =
     odd : (n : ℕ) → (u * n + (2 * i + 1)) * 2 ^ k ≡ (u * n + 2 * i) * 2 ^ k + 2 ^ k
     odd n = omega arith
 
--- Let the number of clear marks among the first n be the number of vacant blocks among the first n. If mark n says whether block
--- n is taken, the same is true of the first n + 1.
+-- Suppose that the number of clear marks among the first n marks is the number of vacant blocks among the first n blocks. If mark
+-- n is set exactly if block n is not vacant, these numbers are also equal for the first n + 1 marks and blocks.
 one_more : (h : Holdings) (k begin n : ℕ) (taken : List Bool) → n < length taken
     → get_or taken n false ≡ not (is_vacant h (block ((begin + n) * 2 ^ k) k))
     → length (filter not (take n taken)) ≡ vacant_from h k begin n

@@ -31,7 +31,7 @@ impl Model for FrameBlock {
 }
 
 impl FrameBlock {
-    /// Returns the block of the `2^order` frames from `first` on.
+    /// Returns the block of `2^order` frames that begins at frame `first`.
     pub fn new(first: u32, order: u8) -> FrameBlock
         requires { order ≤ MOST_ORDER }
         ensures { result ≡ block first order }
@@ -120,7 +120,7 @@ impl FrameBlock {
         u64::from(self.first()) < other.end() && u64::from(other.first()) < self.end()
     }
 
-    /// Returns whether the `len` bytes from `place` on lie in the block.
+    /// Returns whether the `len` bytes that begin at `place` lie in the block.
     pub fn has_range(&self, place: u32, len: u32) -> bool
         ensures { result ≡ within_block place len self.now }
     {

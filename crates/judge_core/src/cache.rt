@@ -183,7 +183,7 @@ impl HeldCache {
         self.live.iter().all(|place| self.is_slab_full(*place))
     }
 
-    /// Returns the first place of the live object that contains the `len` bytes from `place` on, if there is one.
+    /// Returns the first place of the live object that contains the `len` bytes that begin at `place`, if there is one.
     pub fn object_with(&self, place: u32, len: u32) -> Option<u32>
         ensures { result ≡ find (λ first. is_within place len first self.now.size) self.now.live }
     {

@@ -143,7 +143,7 @@ impl Held {
     fn is_in_pages(&self, block: &FrameBlock) -> bool
         ensures { result ≡ list_any (overlaps block.now) self.now.pages }
     {
-        // The last of these blocks are the nearest to `block`, so they are tested first.
+        // Of the blocks that `pages_near` returns, the last are the nearest to `block`, so they are tested first.
         self.pages_near(u64::from(block.first()), block.end())
             .iter()
             .rev()
@@ -205,8 +205,8 @@ impl Held {
         ensures value { result ≡ length (filter (is_vacant self.now) (blocks_of_slot order k slot)) }
         ensures most { result ≤ 256 }
     {
-        // In a slot of 64 frames or more, single frames are counted with `taken_in`. It searches each cache once, with a short
-        // search for each slab, which costs less than testing the frames one by one.
+        // In a slot of 64 frames or more, single frames are counted with `taken_in`, which searches each cache once, with a short
+        // search for each slab. This costs less than testing the frames one by one.
         if k > 0 || order < 6 {
             let blocks = 1u32 << order.saturating_sub(k);
             return self.count_vacant_from(k, u32::from(slot) * blocks, blocks);
@@ -215,7 +215,8 @@ impl Held {
         count_clear(&taken, 1 << order) as u32
     }
 
-    /// Returns how many of `blocks` aligned blocks of `2^k` frames, from block number `begin` on, have no taken frame.
+    /// Returns how many of the aligned blocks of `2^k` frames with the numbers `begin` to `begin + blocks - 1` have no taken
+    /// frame.
     fn count_vacant_from(&self, k: u8, begin: u32, blocks: u32) -> u32
         requires k { k ≤ MOST_ORDER }
         requires end { begin + blocks ≤ 2 ^ 24 }
@@ -267,8 +268,8 @@ impl Held {
             && cache.has_gap_among(place, beside)
     }
 
-    /// Returns the live page block or live object that contains the `len` bytes from `place` on, if there is one. Returns `None`
-    /// if `len` is 0.
+    /// Returns the live page block or live object that contains the `len` bytes that begin at `place`, if there is one. Returns
+    /// `None` if `len` is 0.
     #[tactic(auto, unfolding(promise_core::specs::Bytes::holder_of))]
     pub fn holder_of(&self, place: u32, len: u32) -> Option<RangeHolder>
         ensures { option_map shown_holder result ≡ holder_of self.now place len }
@@ -287,7 +288,7 @@ impl Held {
         ensures { result ≡ list_any (within_block place len) self.now.pages }
     {
         let frame = u64::from(place / FRAME_BYTES);
-        // The last of these blocks are the nearest to `place`, so they are tested first.
+        // Of the blocks that `pages_near` returns, the last are the nearest to `place`, so they are tested first.
         self.pages_near(frame, frame + 1)
             .iter()
             .rev()

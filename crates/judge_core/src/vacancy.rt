@@ -1,4 +1,4 @@
-//! Finds which frames of a slot are taken, once for all blocks of the slot.
+//! Finds which frames of a slot are taken. This is done once and serves all blocks of the slot.
 
 ghost use Rattle.std.specs.Prelude.{◌≡◌, ℕ, ◌+◌, ◌*◌, ◌^◌, ◌<◌, ◌≤◌, not, ◌||◌, false, length, filter, slice_index, slice_index_or, take, drop, nat_lt};
 ghost use Rattle.std.specs.List.{list_any, prefix_len};

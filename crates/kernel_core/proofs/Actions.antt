@@ -1,4 +1,4 @@
--- What a tenant sees in any actions is what its private machine gives for the tenant's own list.
+-- Whatever the actions are, a tenant sees what its private machine gives for the tenant's own list.
 use Rattle.std.proofs.Common.{◌≡◌, ℕ, ◌<◌, ◌==◌, Bool, true, false, List, [], ◌∷◌, ◌++◌, Some, map, slice_get, if◌then◌else◌, append_assoc, refl, sym, ap, ◌∙◌, subst}
 use Rattle.std.proofs.lemmas.Bool.{eqb-true}
 use Rattle.std.proofs.lemmas.List.{map-append}
@@ -34,8 +34,8 @@ seen-append limit order (x ∷ xs) ys m =
     ap (then_seen first.sights) (seen-append limit order xs ys first.machine)
     ∙ ap (λ sights. record { sights = sights; machine = rest.machine }) (sym (append_assoc first.sights (own_seen limit order xs first.machine).sights rest.sights))
 
--- if an own list has only entries, the tenant sees the replies of a private run of these entries, and the machine afterwards is
--- the machine after that run
+-- if an own list has only entries (`Enters`), and no stores or loads, the tenant sees the replies of a private run of these
+-- entries, and the machine afterwards is the machine after that run
 entered : (limit order : ℕ) (entries : List Entry) (m : Machine)
     → own_seen limit order (map Enters entries) m
     ≡ record { sights = map Told (private_run limit order entries m).replies; machine = (private_run limit order entries m).machine }
@@ -78,8 +78,8 @@ run_follows k k' event reply t m had steps is =
       };
     })
 
--- The list of x alone if `own` is true, and the empty list otherwise. A store is in the own list of the tenant that stores, and
--- in no other tenant's own list.
+-- The list with x as its only element if `own` is true, and the empty list otherwise. A store is in the own list of the tenant
+-- that stores, and in no other tenant's own list.
 abbrev if_own : {A : Type 0} → Bool → A → List A
 if_own own x = if own then x ∷ [] else []
 

@@ -42,7 +42,7 @@ taken r r' b b' s s' t agree spares number told answer shows refused =
     (λ m shown. subst (λ top. ShowsMachine (content_of r' b' s') t (take_step top number m).machine) order (shows m shown))
     (by_err take_body told (λ place. refl) refused)
 
--- if P holds when the result of `take_object` is a refusal, P holds when that result, reduced to the place, is a refusal
+-- if P holds when the result of `take_object` is a refusal, P also holds when `place_taken` of this result is a refusal
 pub untaken : (P : Type 0) (told : Result Taken TakeRefusal) → OnErr told P → OnErr (place_taken told) P
 untaken P (Ok it) left = left
 untaken P (Err refusal) left = left

@@ -43,8 +43,8 @@ commanded k k' t command body step told same does refused = record {
   refused = refused;
 }
 
--- Let a call change nothing that other tenants have, and nothing at all when it is refused. If it does the command's step, it
--- runs the command (`StepsMachine`).
+-- Suppose that a call changes nothing that other tenants have, and nothing at all when it is refused. If the call does the
+-- command's step, it runs the command (`StepsMachine`).
 pub called : {A : Type 0} (r r' : spaces.Content) (b b' : buddies.Content) (s s' : tables.Content) (t : ℕ) → Spares t r r' b b' s s'
     → (command : Command) (body : A → Body) (step : Machine → Step A) (told : A)
     → ((m : Machine) → command_step cache_limit b.top command m ≡ with_body body (step m))
@@ -70,8 +70,8 @@ pub passed : {A E : Type 0} (told : A → Body) (refusal : E → Refusal) (e : E
     → body_of told y ≡ Refused (refusal e)
 passed told refusal e y is = let found = err_from_is_err_and y is in ap (body_of told) found.1 ∙ ap (λ r. Refused r) found.2
 
--- Let a command change no machine that the kernel shows for tenant t. Then a call that changes nothing runs this command if the
--- call returns the command's answer.
+-- Suppose that a command changes no machine that the kernel shows for tenant t. Then a call that changes nothing runs this
+-- command if the call returns the command's answer.
 pub answered : (k : KernelContent) (t : ℕ) (command : Command) (body : Body)
     → ((m : Machine) → ShowsMachine k t m → command_step cache_limit k.order command m ≡ record { answer = body; machine = m }) → StepsMachine k t command k body
 answered k t command body same = record { does = does_nothing k t (command_step cache_limit k.order command) body same; refused = λ _. refl }

@@ -37,8 +37,8 @@ free_here taken x ended none (f, k, is, here) = go (cases_order f x)
     go (inr (inl below)) = absurd (omega (arith, ended f k is below, here.1))
     go (inr (inr above)) = absurd (omega (arith, here.0))
 
--- Let all taken blocks that begin before frame x end at or before x. If a taken block begins at x, and frame e is the first one
--- after this block, then all taken blocks that begin before e end at or before e.
+-- Suppose that all taken blocks that begin before frame x end at or before x. If a taken block begins at x, and frame e is the
+-- first one after this block, then all taken blocks that begin before e end at or before e.
 pub block_next : (top : ℕ) (held : ℕ → Bool) (taken : Taken) → IsSound top held taken → (x j : ℕ) → AreEndedBefore taken x → taken x ≡ Some j
     → AreEndedBefore taken (x + 2 ^ j)
 block_next top held taken sound x j ended here f k is less = go (cases_order f x)
@@ -80,9 +80,9 @@ slot_first slot order small few = shl_whole slot 16 order 32 small (omega (arith
 pub frame_of_slot : (slot order at : ℕ) → at < 2 ^ order → ((slot * 2 ^ order + at) / 2 ^ order ≡ slot) × ((slot * 2 ^ order + at) % 2 ^ order ≡ at)
 frame_of_slot slot order at less = (div-mul-add slot (2 ^ order) at less, mod-mul-add slot (2 ^ order) at less)
 
--- Let P hold for the first `at` cells of `old`, and for `kind` at the next `frames` indices. Let `new` keep the first `at` cells,
--- and have `kind` in each of the next `frames` cells whose index is below `most`. Then P holds for all cells of `new` whose index
--- is below both `at + frames` and `most`.
+-- Suppose that P holds for the first `at` cells of `old`, and for `kind` at the next `frames` indices. Suppose also that `new`
+-- keeps the first `at` cells, and has `kind` in each of the next `frames` cells whose index is below `most`. Then P holds for all
+-- cells of `new` whose index is below both `at + frames` and `most`.
 pub runs_more : (P : ℕ → FrameKind → Type 0) (old new : List FrameKind) (at frames most : ℕ) (kind : FrameKind)
     → ((k : ℕ) (cell : FrameKind) → k < at → slice_get old k ≡ Some cell → P k cell)
     → ((k : ℕ) → k < at → slice_get new k ≡ slice_get old k)
@@ -110,8 +110,8 @@ module _ (r : spaces.Content) (b : buddies.Content) (s : Content) (t : ℕ) (st 
   in_page first k taken here none =
       (first, k, h.blocks first ∙ ap (λ v. cond v None (buddies.taken_of (buddies.holding_of t b) first)) none ∙ taken, here)
 
-  -- if a slab of list `head` begins at a taken block, each frame of the block lies in a slab of the machine that has this list's
-  -- kind
+  -- if a slab of list `head` begins at a taken block, each frame of the block lies in a slab of the machine, and this slab is of
+  -- the list's kind
   pub in_slab : IsSlabs s → showing.Agree r b s → (first k : ℕ) → buddies.taken_of (buddies.holding_of t b) first ≡ Some k → HasFrame (block first k) f
       → (machine_frame head key kind : ℕ) → showing.machine_frame_of s.top r.slots t first ≡ Some machine_frame → place_at s.lists.places machine_frame ≡ Some (head, key)
       → kind < 3 → head % 3 ≡ kind → IsInSlab m f (is_kind kind)

@@ -51,8 +51,8 @@ shows_changed k k' w t m m' owners shown agree same_tenants same_owners here sho
       (cases_eq u t);
 }
 
--- Let an event change nothing and return the same reply in each world that the kernel shows. Then a call that only returns this
--- reply is a step of the event.
+-- Suppose that an event changes nothing and returns the same reply in each world that the kernel shows. Then a call that only
+-- returns this reply is a step of the event.
 pub steps_answered : (k : KernelContent) (event : Event) (to : Addressee) (body : Body)
     → ((w : World) → Shows k w → world_step cache_limit k.order event w ≡ answer to body w)
     → Steps k event k (record { addressee = to; body = body })
@@ -67,8 +67,8 @@ steps_answered k event to body same = record {
   spare = λ _ _. refl;
 }
 
--- Let an event name tenant t, and change only the table of owners and t's machine in the world. If a call does this step in the
--- kernel and its reply is not a refusal, the call is a step of the event.
+-- Suppose that an event names tenant t, and changes only the table of owners and t's machine in the world. If a call does this
+-- step in the kernel and its reply is not a refusal, the call is a step of the event.
 pub steps_done : {A : Type 0} (k k' : KernelContent) (event : Event) (reply : Reply) (t : ℕ) (step : Machine → Step A) (owned : List (Option Owner)) (told : A)
     → t < k.tenants → PartsAgree k' → Does k t step owned k' told
     → ((w : World) (m : Machine) → Shows k w → ShowsMachine k t m → slice_get w.machines t ≡ Some m

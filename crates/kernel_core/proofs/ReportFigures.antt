@@ -37,8 +37,8 @@ pub greatest_none : (count : ℕ → ℕ) (k : ℕ) (o : Option ℕ) → o ≡ g
 greatest_none count k o e none =
     e ∙ sym (ap (greatest count) (add-one k) ∙ ap (λ v. cond v (greatest count k) (Some k)) (eq-eqb (count k) 0 none))
 
--- Let `live` be the number of frames in taken blocks of orders below k. Adding the frames in taken blocks of order k gives the
--- number for orders below k + 1. It is at most 65536, so there is no overflow.
+-- Suppose that `live` is the number of frames in taken blocks of orders below k. Adding the frames in taken blocks of order k
+-- gives the number for orders below k + 1. It is at most 65536, so there is no overflow.
 pub live_more : (b : buddies.Content) (t k live taken : ℕ) → AreWithin b t → k < b.top + 1 → live ≡ frames_below (buddies.holding_of t b) k
     → taken ≡ buddies.taken_block_count k (buddies.holding_of t b)
     → (live + taken * 2 ^ k % 4294967296 ≡ frames_below (buddies.holding_of t b) (k + 1)) × (frames_below (buddies.holding_of t b) (k + 1) ≤ 65536)

@@ -17,7 +17,7 @@ use Rattle.kernel_core.specs.Stores.{IsKernel, Stores, Loads}
 pub data Action : Type 0 where
   -- an event is run and gets this reply
   Runs : Event → Reply → Action
-  -- a tenant stores these bytes from a place on
+  -- a tenant stores these bytes, beginning at a place
   StoresAt : ℕ → ℕ → List ℕ → Action
   -- a tenant loads the byte at a place
   LoadsAt : ℕ → ℕ → ℕ → Action

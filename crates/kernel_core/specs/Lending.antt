@@ -22,14 +22,15 @@ use Rattle.kernel_core.specs.contracts.kernel.Kernel.{the_row}
 abbrev pub fit : List ℕ → List ℕ → List ℕ
 fit xs ws = take (length xs) (ws ++ drop (length ws) xs)
 
--- the `len` bytes of tenant t from the place on, or no bytes if the range does not lie in one held slot
+-- the `len` bytes of tenant t that begin at the place, or no bytes if the range does not lie in one held slot
 abbrev pub bytes_in : Content → ℕ → ℕ → ℕ → List ℕ
 bytes_in r t place len = unwrap_or (window_of r t place len) []
 
 abbrev pub LendsWithin : MutBor Content → ℕ → ℕ → ℕ → MutBor (List ℕ) → Fml
 LendsWithin s t place len r = Lends spaces.the_row (Array u8 0) s r (λ ws. with_window s.now t place len (fit (bytes_in s.now t place len) ws))
 
--- the parts after the bytes ws are stored in the range of `len` bytes from the place on; `fit` first brings ws to this length
+-- the parts after the bytes ws are stored in the range of `len` bytes that begins at the place; `fit` first brings ws to this
+-- length
 abbrev pub with_left : KernelContent → ℕ → ℕ → ℕ → List ℕ → KernelContent
 with_left k t place len ws = record k { space = stored t place (fit (bytes_in k.space t place len) ws) k.space }
 
@@ -43,12 +44,12 @@ pub record IsLive (k : KernelContent) (span : Span) : Type 0 where
   pub reach : IsInReach k.space k.buddy k.slabs span.tenant span.place span.bytes
   pub home : home_of k.space span.tenant span.place span.bytes ≡ Some span.superblock
 
--- the machine has these bytes from the place on, all inside one live page block or one live object
+-- the machine has these bytes, beginning at the place, all inside one live page block or one live object
 pub record HasBytes (m : Machine) (place : ℕ) (bytes : List ℕ) : Type 0 where
   pub reach : in_reach m place (length bytes) ≡ true
   pub each : (i : ℕ) → i < length bytes → m.bytes (place + i) ≡ Some (slice_index bytes i)
 
--- These are the `len` bytes of tenant t from the place on, and the tenant's private machine has the same bytes there. If a
+-- These are the `len` bytes of tenant t that begin at the place, and the tenant's private machine has the same bytes there. If a
 -- borrower leaves new bytes there, `len` in number, they are stored. If a borrower leaves the bytes as they were, nothing
 -- changes.
 pub record IsLent (k : KernelContent) (t place len : ℕ) (bytes : List ℕ) : Type 0 where

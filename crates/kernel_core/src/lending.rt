@@ -56,7 +56,7 @@ impl Kernel {
         )
     }
 
-    /// Returns the span of the `len` bytes of a tenant from `place` on.
+    /// Returns the span of the `len` bytes of a tenant that begin at `place`.
     ///
     /// Refuses with `NoTenant`, then with `OutOfReach` if `len` is 0 or the bytes do not lie inside one live page block or one
     /// live object.

@@ -47,7 +47,7 @@ impl Kernel {
         self.space.machine_bytes(superblock)
     }
 
-    /// Returns true if superblock `superblock` may have bytes of an earlier owner. If so, it is zeroed before it is granted.
+    /// Returns true if superblock `superblock` may have bytes of an earlier owner. After its next grant it reads as zero.
     pub fn is_marked(&self, superblock: u16) -> bool
         requires { superblock < self.now.superblocks }
         ensures { result ≡ mark_at self.now.space.marks superblock }

@@ -18,8 +18,8 @@ use space_core::Space;
 use words_core::Refusal;
 
 impl Kernel {
-    /// Takes a page block of `2^order` frames and returns its first frame. If a block is found only after the tenant's empty
-    /// slabs are freed, frees them first.
+    /// Takes a page block of `2^order` frames and returns its first frame. If no free block is large enough, but one would be
+    /// after all empty slabs of the tenant are freed, frees these slabs first.
     #[inline(always)]
     pub(crate) fn alloc(&mut self, t: u8, order: u32) -> Result<u32, Refusal>
         requires { t < self.old.tenants }
@@ -69,7 +69,7 @@ impl Kernel {
             .ok_or(Refusal::NotABlock)
     }
 
-    /// Borrows the `len` bytes from `place` on.
+    /// Borrows the `len` bytes that begin at `place`.
     ///
     /// Refuses with `BadLength` unless `len` is 1 to 64, then with `OutOfReach` if the bytes are not inside one live page block
     /// or one live object of the tenant.
@@ -89,7 +89,7 @@ impl Kernel {
         Ok(lent(&self.space, superblock, self.order(), t, place, len))
     }
 
-    /// Writes at most 64 bytes from `place` on and returns their number.
+    /// Writes at most 64 bytes, beginning at `place`, and returns their number.
     ///
     /// Refuses with `OutOfReach` if `bytes` is empty, or if the range is not inside one live page block or one live object of the
     /// tenant. A refused call writes nothing.

@@ -23,7 +23,7 @@ use words_core::{ORDERS, Report};
 /// The figures of a tenant's blocks.
 #[derive(Drop)]
 struct Blocks {
-    /// The numbers of free and taken blocks of each order, from order 0 on.
+    /// The numbers of free and taken blocks of each order, indexed by order.
     orders: ArrayVec<OrderRow, ORDERS>,
     /// The number of frames in taken blocks.
     live: u32,
@@ -38,7 +38,7 @@ pub struct BlockFigures {
     pub frames: u32,
     /// The number of these frames in taken blocks: page blocks and slabs, including empty slabs.
     pub live: u32,
-    /// The numbers of free and taken blocks of each order, from order 0 on.
+    /// The numbers of free and taken blocks of each order, indexed by order.
     pub orders: ArrayVec<OrderRow, ORDERS>,
 }
 

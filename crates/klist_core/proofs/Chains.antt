@@ -19,8 +19,8 @@ pub record IsApart (limit : ℕ) (place : ℕ → Option (ℕ × ℕ)) (h : ℕ)
   pub keyed : IsKeyed limit place h
   pub apart : (i j k : ℕ) → place i ≡ Some (h, k) → place j ≡ Some (h, k) → i ≡ j
 
--- What an insertion and a removal have in common: `old` becomes `new`. `small` is the one of the two that is without node n, so
--- for an insertion it is `old`, and for a removal it is `new`.
+-- What an insertion and a removal have in common: `old` becomes `new`. `small` is the one without node n: it is `old` for an
+-- insertion, and `new` for a removal.
 record IsChange (rank : ℕ → ℕ) (old new small : ℕ → Option (ℕ × ℕ)) (h n r : ℕ) (to : Option ℕ) : Type 0 where
   others : (g b : ℕ) (o : Option ℕ) → g ≢ h → IsNearest rank old g b o → IsNearest rank new g b o
   kept : (b : ℕ) (o : Option ℕ) → (r < b) ⊎ IsBetween rank small h b r → IsNearest rank old h b o → IsNearest rank new h b o

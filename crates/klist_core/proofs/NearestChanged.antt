@@ -57,8 +57,8 @@ module _ (rank : ℕ → ℕ) (small large : ℕ → Option (ℕ × ℕ)) (h n k
   pub others_kept_small : (g b : ℕ) (o : Option ℕ) → g ≢ h → IsNearest rank large g b o → IsNearest rank small g b o
   others_kept_small g b o ne v = nearest_same rank large small g b o (λ i k' e. others_lowered g i k' ne e) (λ i k' e. raised p i (g, k') e) v
 
-  -- Let the rank of node n be below a bound, or let another node of list h have a rank that is at least the bound and below the
-  -- rank of n. Then the nearest node of list h from the bound on is the same in `small` and `large`.
+  -- Suppose that the rank of node n is below a bound, or that another node of list h has a rank that is at least the bound and
+  -- below the rank of n. Then the first node of list h with a rank of at least the bound is the same in `small` and `large`.
   pub kept_large : (b : ℕ) (o : Option ℕ) → (rank k < b) ⊎ IsBetween rank small h b (rank k) → IsNearest rank small h b o → IsNearest rank large h b o
   kept_large b None (inl lt) v = record { is = λ i k' e. elim (lowered p i h k' e) [ inl s ↦ v.is i k' s | inr w ↦ let r = ap rank w.2 in omega arith ] }
   kept_large b None (inr w) v = let u = v.is w.node w.key w.here in absurd (omega (arith, w.from))
@@ -85,8 +85,9 @@ module _ (rank : ℕ → ℕ) (small large : ℕ → Option (ℕ × ℕ)) (h n k
       elsewhere (inl lt) r = omega (arith, l.from)
       elsewhere (inr x) r = let u = l.least x.node x.key (raised p x.node (h, x.key) x.here) x.from in omega (arith, x.below)
 
-  -- Let the rank of node n be at least a bound, and let no other node of list h have a rank between the two. Then the nearest
-  -- node of list h from the bound on is n in `large`. In `small` it is the node that is after n in `large`.
+  -- Suppose that the rank of node n is at least a bound, and that no other node of list h has a rank that is at least the bound
+  -- and below the rank of n. Then n is the first node of list h in `large` with a rank of at least the bound. In `small`, that
+  -- first node is the node that is after n in `large`.
   pub joined_large : (b : ℕ) → b ≤ rank k → ((i k' : ℕ) → small i ≡ Some (h, k') → b ≤ rank k' → rank k ≤ rank k') → IsNearest rank large h b (Some n)
   joined_large b le above = record { is = (k, record { here = p.here; from = le; least = least }) }
     where

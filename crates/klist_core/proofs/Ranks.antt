@@ -52,8 +52,8 @@ rank_below came now places before keyed i h r e =
       | inr other ↦ omega (arith, is, by_key h (came i) w.0 (omega (arith, other)), keyed i h w.0 w.1)
     ]
 
--- Let all ranks of list h be below the limits l and l', and let the bound b with l admit the same ranks as the bound b' with l'.
--- Then the nearest node downwards is the same with l and b as with l' and b'.
+-- Suppose that all ranks of list h are below the limits l and l', and that the bound b with l admits the same ranks as the bound
+-- b' with l'. Then the nearest node downwards is the same with l and b as with l' and b'.
 pub nearest_limit : (l l' : ℕ) (place : ℕ → Option (ℕ × ℕ)) (h b b' : ℕ) (o : Option ℕ) → ((i r : ℕ) → place i ≡ Some (h, r) → (r < l) × (r < l'))
     → ((r : ℕ) → r < l → r < l' → b ≤ l - r → b' ≤ l' - r) → ((r : ℕ) → r < l → r < l' → b' ≤ l' - r → b ≤ l - r)
     → IsNearest (back_from l) place h b o → IsNearest (back_from l') place h b' o

@@ -67,9 +67,9 @@ len_before : (o : Option ℕ) (h : ℕ) (to : Option ℕ) (heads : List Head) (g
 len_before None h to heads g = unseen (λ (x : Head). x.len) heads h g (record (head_at heads h) { last = to }) (head_at [] 0) refl
 len_before (Some i) h to heads g = refl
 
--- In one direction, f reads the first node of a list and g reads the link of a node. Let no first node have changed, and no link
--- except perhaps the link of node n. If list h then gets the head x, only the first node of list h, which is now `to`, and
--- perhaps the link of node n have changed.
+-- In one direction, f reads the first node of a list and g reads the link of a node. Suppose that no first node has changed, and
+-- no link except perhaps the link of node n. If list h then gets the head x, only two things have changed: the first node of list
+-- h, which is now `to`, and perhaps the link of node n.
 ends_relinked : (f : Head → Option ℕ) (g : Node → Option ℕ) (h n : ℕ) (to : Option ℕ) (ends links : ℕ → Option ℕ) (heads : List Head) (nodes : List Node) (x : Head) → h < length heads → f x ≡ to
     → ((i : ℕ) → f (head_at heads i) ≡ ends i) → ((i : ℕ) → i ≢ n → g (node_at nodes i) ≡ links i)
     → IsRelinked ends links (λ i. f (head_at (set heads h x) i)) (λ i. g (node_at nodes i)) h n None to
@@ -80,7 +80,7 @@ ends_relinked f g h n to ends links heads nodes x lt is e l = record {
   other_link = λ i ne _. l i ne;
 }
 
--- if instead node j becomes y, only the link of node j, which is now `to`, and perhaps the link of node n have changed
+-- if instead node j becomes y, what has changed is the link of node j, which is now `to`, and perhaps the link of node n
 links_relinked : (f : Head → Option ℕ) (g : Node → Option ℕ) (h n j : ℕ) (to : Option ℕ) (ends links : ℕ → Option ℕ) (heads : List Head) (nodes : List Node) (y : Node) → j < length nodes → g y ≡ to
     → ((i : ℕ) → f (head_at heads i) ≡ ends i) → ((i : ℕ) → i ≢ n → g (node_at nodes i) ≡ links i)
     → IsRelinked ends links (λ i. f (head_at heads i)) (λ i. g (node_at (set nodes j y) i)) h n (Some j) to

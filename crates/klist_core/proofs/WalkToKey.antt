@@ -21,7 +21,7 @@ pub record IsBehind (place : ℕ → Option (ℕ × ℕ)) (h key i : ℕ) (o : O
   pub after : IsNearest up place h (up own + 1) o
 
 module _ (place : ℕ → Option (ℕ × ℕ)) (h key : ℕ) where
-  -- Let the key of node i be below `key`. If no node is after node i, no node of list h has a key above `key` ..
+  -- if the key of node i is below `key` and no node is after node i, no node of list h has a key above `key` ..
   pub behind_last : (i : ℕ) → IsBehind place h key i None → IsNearest up place h (up key + 1) None
   behind_last i v = record { is = λ j k e. let u = v.after.is j k e in omega (arith, v.below) }
 

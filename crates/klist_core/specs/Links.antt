@@ -10,7 +10,8 @@ use Rattle.klist_core.specs.declared.Node.{Node}
 abbrev pub up : ℕ → ℕ
 up key = key
 
--- .. and for the opposite direction, the rank is a limit minus the rank for the way up, which is below the limit
+-- .. and for the opposite direction, the rank is a limit minus the rank for the way up; the rank for the way up is below this
+-- limit
 abbrev pub back_from : ℕ → ℕ → ℕ
 back_from limit r = limit - r
 

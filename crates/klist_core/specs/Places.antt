@@ -15,8 +15,8 @@ abbrev pub is_in : ℕ → Option (ℕ × ℕ) → Bool
 is_in h None = false
 is_in h (Some p) = p.0 == h
 
--- Lists come in threes: lists 0, 1 and 2, then lists 3, 4 and 5, and so on. This is the position of list h in its three, from 0
--- to 2.
+-- Lists come in threes: lists 0, 1 and 2, then lists 3, 4 and 5, and so on. `in_three h` is the position of list h in its three,
+-- from 0 to 2.
 abbrev pub in_three : ℕ → ℕ
 in_three h = h % 3
 
@@ -52,7 +52,7 @@ inserted s h i k = record s { places = slice_set s.places i (Some (h, k)) }
 abbrev pub removed : Placed → ℕ → Placed
 removed s i = record s { places = slice_set s.places i None }
 
--- the table after node j takes the place of node i, which is then in no list
+-- the table after node j takes the place of node i; node i is then in no list
 abbrev pub replaced : Placed → ℕ → ℕ → Placed
 replaced s i j = record s { places = slice_set (slice_set s.places i None) j (place_at s.places i) }
 

@@ -5,9 +5,9 @@
 //! next node, and each list to its first and last node (Knuth, The Art of Computer Programming, 2.2.5).
 //!
 //! Lists come in threes: lists 0, 1 and 2, then lists 3, 4 and 5, and so on. The first list of each three is loose, and the other
-//! two are linked by key. In contracts a loose list is a list like any other, in ascending order of keys, but its nodes are linked
-//! in the order in which they were inserted, and a node that replaces another one ([`Lists::replace`]) is linked where that node
-//! was. So an insertion takes constant time with any key, but a search for the least key visits all nodes of the table.
+//! two are linked by key. In contracts a loose list is a list like any other, in ascending order of keys. In the table, its nodes
+//! are linked in the order in which they were inserted. A node that replaces another one ([`Lists::replace`]) is linked where
+//! that node was. So an insertion takes constant time with any key, but a search for the least key visits all nodes of the table.
 //!
 //! Only [`Lists::new`] allocates.
 #![tactic(auto)]
@@ -275,7 +275,7 @@ impl Lists {
     /// Inserts a node that is in no list, under a key that the list does not have.
     ///
     /// Takes constant time in a loose list, and in any list if the key is below or above all keys of the list. Otherwise it
-    /// searches from the first node on, so use [`Lists::insert_near`] for a long list.
+    /// searches the list, beginning at the first node, so use [`Lists::insert_near`] for a long list.
     #[inline(always)]
     pub fn insert(&mut self, head: u32, node: u32, key: u32)
         requires head { head < self.old.heads }

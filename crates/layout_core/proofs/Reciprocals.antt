@@ -7,7 +7,7 @@ use Rattle.model_core.proofs.Layouts.{layouts_fit}
 use Rattle.model_core.specs.Layouts.{layout_of}
 use Rattle.layout_core.specs.Inside.{AreLayoutFields, reciprocal_of}
 
--- Let n be from / chunk. If m * chunk is at least `whole`, from * m is at least n * whole ..
+-- if m * chunk is at least `whole`, then `from * m` is at least n * whole, where n is `from / chunk` ..
 product_reaches : (whole chunk m from : ℕ) → whole ≤ m * chunk → from / chunk * whole ≤ from * m
 product_reaches whole chunk m from over =
     let split : from / chunk * chunk + from % chunk ≡ from = div-add-mod' from chunk in
@@ -15,7 +15,7 @@ product_reaches whole chunk m from over =
     let columns : from / chunk * chunk * m ≤ from * m = mul-le-mul_right m (omega arith) in
     omega arith
 
--- .. and if m * chunk is `whole + more`, and (n + 1) * more is below m, from * m is below (n + 1) * whole
+-- .. and if m * chunk is `whole + more`, and (n + 1) * more is below m, then `from * m` is below (n + 1) * whole
 product_stays : (whole chunk m more from : ℕ) → 0 < chunk → m * chunk ≡ whole + more → (from / chunk + 1) * more < m
     → from * m < (from / chunk + 1) * whole
 product_stays whole chunk m more from some is few =
@@ -37,7 +37,7 @@ is_near chunk some =
     let below : 2 ^ 32 % chunk < chunk = mod-lt (2 ^ 32) some in
     record { more = chunk - 2 ^ 32 % chunk; is = omega arith; few = omega arith }
 
--- from / chunk is `from` times the reciprocal, divided by 2 ^ 32, if `from` is below 32768 and a chunk has 1 to 32768 bytes
+-- if `from` is below 32768 and a chunk has 1 to 32768 bytes, `from / chunk` is `from` times the reciprocal, divided by 2 ^ 32
 exact : (chunk from : ℕ) → 0 < chunk → chunk ≤ 32768 → from < 32768 → from * reciprocal_of chunk / 2 ^ 32 ≡ from / chunk
 exact chunk from some few below =
     let near = is_near chunk some in
@@ -85,7 +85,7 @@ missed chunk count from some within above = elim (cases_lt (from / chunk) count)
   | inr least ↦ least
 ]
 
--- a product with the reciprocal that a layout stores is a product with `reciprocal_of` its chunk
+-- the reciprocal that a layout stores is `reciprocal_of` its chunk, so a product with one is a product with the other
 product_is : (from reciprocal chunk a b : ℕ) → a ≡ from → b ≡ reciprocal → reciprocal ≡ reciprocal_of chunk
     → a * b / 2 ^ 32 ≡ from * reciprocal_of chunk / 2 ^ 32
 product_is from reciprocal chunk a b a_is b_is is =

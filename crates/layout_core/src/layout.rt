@@ -110,7 +110,7 @@ impl Layout {
         self.count
     }
 
-    /// Returns the number of colour offsets, at least 1. They are the multiples of the alignment from 0 on.
+    /// Returns the number of colour offsets, at least 1. They are the first multiples of the alignment, beginning with 0.
     pub fn colours(&self) -> u32
         ensures { result ≡ (numbers_of self.now).colours }
     {
@@ -160,8 +160,8 @@ impl Layout {
         }
     }
 
-    /// Returns the index of the object that contains the `len` bytes from this offset on, in a slab with this colour offset.
-    /// Returns `None` if no object does. No object contains a range of 0 bytes.
+    /// Returns the index of the object that contains the `len` bytes that begin at this offset, in a slab with this colour
+    /// offset. Returns `None` if no object does. No object contains a range of 0 bytes.
     pub fn holder(&self, colour: u32, offset: u32, len: u32) -> Option<u32>
         ensures { MatchOption result ((i : ℕ) → ¬ Holds self.now colour offset len i) (IsOnly (Holds self.now colour offset len)) }
     {

@@ -28,8 +28,8 @@ pub record ChangesFor (t : ℕ) (r r' : spaces.Content) (b b' : buddies.Content)
   pub others : (u : ℕ) → u ≢ t → Keeps r r' b b' s s' u
   pub shows : (m : Machine) → ShowsMachine r b s t m → ShowsMachine r' b' s' t (change m)
 
--- Let superblock m, which has no owner, be granted to tenant t as slot u, the lowest slot that t does not hold. Then the parts
--- change only for t, and show `after_grant` of the old machine for it.
+-- If superblock m, which has no owner, is granted to tenant t as slot u, the lowest slot that t does not hold, the parts change
+-- only for t. They then show `after_grant` of the old machine for t.
 abbrev pub GrantedShows : Type 0
 GrantedShows = (r : spaces.Content) (b : buddies.Content) (s : Content) (t u m : ℕ)
     → HoldTogether r b s → t < length r.slots → IsLeastSlot r.slots t u → u < length r.owners
@@ -41,8 +41,8 @@ abbrev pub NextMeets : Type 0
 NextMeets = (r : spaces.Content) (b : buddies.Content) (s : Content) (t u : ℕ) (m : Machine)
     → ShowsMachine r b s t m → IsLeastSlot r.slots t u → next_slot m ≡ u
 
--- Let superblock m be taken back from slot u of tenant t, in which no frame is taken. Then the parts change only for t, and show
--- `after_take_back` of the old machine for it.
+-- If superblock m is taken back from slot u of tenant t, and no frame of the slot is taken, the parts change only for t. They
+-- then show `after_take_back` of the old machine for t.
 abbrev pub TakenBackShows : Type 0
 TakenBackShows = (r : spaces.Content) (b : buddies.Content) (s : Content) (t u m : ℕ)
     → HoldTogether r b s → t < length r.slots → spaces.superblock_at r.slots t u ≡ Some m

@@ -1,5 +1,7 @@
--- How the open blocks change when one block is taken out of the frames that pass. Read forwards, this is a reservation with its
--- splits; read backwards, it is a release with its joins. If the block is a whole slot, the slot is taken back or granted.
+-- How the open blocks change when the frames of one block no longer pass a test. A block is open under a test if all its frames
+-- pass, and it is a whole slot or the block of the next order around it has a frame that fails. Read forwards, the change is a
+-- reservation with its splits; read backwards, it is a release with its joins. If the block is a whole slot, the slot is taken
+-- back or granted.
 use Rattle.std.proofs.Common.{◌≡◌, ◌⊎◌, inl, inr, refl, sym, ◌∙◌, ap, ℕ, suc, ◌/◌, ◌<◌, ◌≤◌, Bool, true, false, arith}
 use Rattle.std.proofs.lemmas.Bool.{both_ways, cases_lt, cases_eq, false_from_ne_true}
 use Rattle.model_core.specs.Numbered.{number_at, is_clear, IsOpen}
@@ -19,7 +21,7 @@ pub record IsOtherHalf (f i x : ℕ) : Type 0 where
   pub one_whole : number_at (suc i) x ≡ number_at (suc i) f
 
 module _ (large small : ℕ → Bool) (top f k j : ℕ) (out : TakesOut large small top f k j) where
-  -- no block around f is clear under `small`
+  -- a block is clear under a test if all its frames pass; no block around f is clear under `small`
   without_f : (i x : ℕ) → is_clear small i (number_at i x) ≡ true → number_at i x ≡ number_at i f → ⊥
   without_f i x clear same = both_ways (small f) (out.inside f refl) (clear_at small i f (ap (is_clear small i) (sym same) ∙ clear))
 

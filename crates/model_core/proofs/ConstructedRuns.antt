@@ -28,7 +28,7 @@ use Rattle.model_core.proofs.ConstructedObjects.{IsFresh, AllFresh, IsConstructe
 use Rattle.model_core.proofs.WellFormedRuns.{keeps_well_formed, runs_well_formed}
 
 -- If the operation hands out no object that begins at the place, all objects that begin there are fresh in machine n. If it hands
--- one out, all of them are constructed in machine n.
+-- out an object that begins there, all objects that begin there are constructed in machine n.
 abbrev Leaves : ℕ → ℕ → Operation → Machine → Machine → Type 0
 Leaves order place operation m n = (hands_out order operation m place ≡ false → AllFresh place n) × (hands_out order operation m place ≡ true → AllConstructed place n)
 

@@ -107,7 +107,7 @@ pub number_plus : (f i : ℕ) → number_at i (f + 2 ^ i) ≡ number_at i f + 1
 number_plus f i = number_is i (f + 2 ^ i) ∙ add-div_right f (pow_pos i) ∙ ap (λ n. n + 1) (sym (number_is i f))
 
 -- An aligned block of order i + 1 at frame f has two halves: the lower half begins at f, the upper half begins at f + 2 ^ i. The
--- upper half is the only aligned block of order i that is the half without f.
+-- upper half is the half without f (`upper_half`), and no other aligned block of order i is (`only_half`).
 pub upper_half : (f i : ℕ) → f % 2 ^ suc i ≡ 0 → IsOtherHalf f i (f + 2 ^ i)
 upper_half f i aligned =
     let even : number_at i f ≡ 2 * number_at (suc i) f = even_number f i aligned in

@@ -103,7 +103,7 @@ pub each_from : {X : Type 0} (P : X → Type 0) (xs : List X) → ((x : X) → I
 each_from P [] f = tt
 each_from P (x ∷ xs) f = (f x (inl refl), each_from P xs (λ y i. f y (inr i)))
 
--- a list without elements is empty
+-- if no x is an element of a list, the list is `[]`
 pub none_in : {X : Type 0} (xs : List X) → ((x : X) → IsIn x xs → ⊥) → xs ≡ []
 none_in [] f = refl
 none_in (x ∷ xs) f = absurd (f x (inl refl))
@@ -335,7 +335,7 @@ filter_rises {X} key p n (x ∷ xs) (l, r) = go (p x) (filter_rises key p (key x
     go true rest = (l, rest)
     go false rest = rises_more (key x + 1) n (map key (filter p xs)) (omega arith) rest
 
--- `least_missing n xs` is at least n, and it is not in xs if xs rises from n on
+-- `least_missing n xs` is at least n, and it is not in xs if xs rises from n
 pub least_above : (n : ℕ) (xs : List ℕ) → n ≤ least_missing n xs
 least_above n [] = omega arith
 least_above n (x ∷ xs) = go (eqb x n) (least_above (n + 1) xs)

@@ -26,7 +26,7 @@ use Rattle.model_core.proofs.VacantBlocks.{IsVacant, some_choice}
 
 -- Lists of numbers
 
--- a number x with a ≤ x < a + n is one of the n numbers from a on
+-- a number x with a ≤ x < a + n is one of the n numbers that begin with a
 pub in_range : (x a n : ℕ) → a ≤ x → x < a + n → IsIn x (range_with_len a n)
 in_range x a zero low high = absurd (omega arith)
 in_range x a (suc n) low high = ⊎_elim (λ same. inl same) (λ other. inr (in_range x (a + 1) n (omega arith) (omega arith))) (cases_eq a x)
@@ -76,7 +76,7 @@ no_longer n (x ∷ xs) ys (l, r) all =
     in_filter (λ y. not (eqb y x)) z ys (all z (inr i)) (ap not (ne_eqb z x (λ same. let above : x + 1 ≤ z = rises_in (x + 1) z xs r i in absurd (omega arith))))) in
     omega arith
 
--- The numbers of the aligned blocks of one order in the listed slots. Slot u has w of them, from number u * w on.
+-- The numbers of the aligned blocks of one order in the listed slots. Slot u has w of these blocks, numbered from u * w.
 
 blocks_in : ℕ → List ℕ → List ℕ
 blocks_in w slots = flat_map (λ u. range_with_len (u * w) w) slots

@@ -136,9 +136,9 @@ TakeKeeps-met law = law 3 0 machine refl
 GiveKeeps-met : GiveKeeps → (give_step 0 0 machine).machine.bytes ≡ machine.bytes
 GiveKeeps-met law = law 0 0 machine
 
--- Let an operation neither write a place nor make a slab there, and let the slot of the place be held before and after the
--- operation. If the place is in a slab both before and after, or in no slab before and after, the operation leaves the place
--- alone.
+-- Suppose that an operation neither writes a place nor makes a slab there, and that the slot of the place is held before and
+-- after the operation. If the place is in a slab both before and after, or in no slab before and after, the operation leaves the
+-- place alone.
 left_alone : (operation : Operation) (m : Machine) (place : ℕ) (slab : Bool) → writes operation place ≡ false → makes_slab_at 3 operation m place ≡ false
     → in_slab m place ≡ slab → in_slab (after MOST_CACHES 3 operation m) place ≡ slab
     → holds m (slot_of 3 place) ≡ true → holds (after MOST_CACHES 3 operation m) (slot_of 3 place) ≡ true → IsLeftAlone MOST_CACHES 3 operation m place

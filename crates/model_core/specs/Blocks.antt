@@ -1,9 +1,9 @@
--- The blocks of a binary buddy system: which blocks are aligned, taken and free, and which free block serves a request.
--- Frames and slots are numbered from 0. `top` is the order of a slot: slot u has 2 ^ top frames, from frame u * 2 ^ top on.
+-- The blocks of a binary buddy system: which blocks are aligned, taken and free, and which free block serves a request. Frames
+-- and slots are numbered from 0. `top` is the order of a slot: slot u has 2 ^ top frames, beginning with frame u * 2 ^ top.
 -- `held` is true of the held slots. Free blocks are stored nowhere: they follow from the held slots and the taken blocks.
 use Rattle.std.specs.Prelude.{◌≡◌, ◌⊎◌, ℕ, ◌+◌, ◌-◌, ◌*◌, ◌/◌, ◌%◌, ◌^◌, ◌<◌, ◌≤◌, Bool, true, ◌==◌, if◌then◌else◌, Option, Some, None}
 
--- the 2 ^ order frames from frame `first` on
+-- the 2 ^ order frames that begin with frame `first`
 pub record Block : Type 0 where
   pub first : ℕ
   pub order : ℕ

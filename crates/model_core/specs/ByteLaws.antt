@@ -52,7 +52,7 @@ abbrev pub BytesStay : Type 0
 BytesStay = (limit order : ℕ) (operation : Operation) (m : Machine) (place : ℕ) → IsWellFormed limit order m
     → IsLeftAlone limit order operation m place → (after limit order operation m).bytes place ≡ m.bytes place
 
--- if the operations of the list run one after another from machine m on, each leaves the place alone
+-- if the operations of the list run one after another, beginning at machine m, each leaves the place alone
 abbrev pub AllLeaveAlone : ℕ → ℕ → List Operation → Machine → ℕ → Type 0
 AllLeaveAlone limit order [] m place = ⊤
 AllLeaveAlone limit order (operation ∷ operations) m place =

@@ -10,7 +10,8 @@ abbrev pub is_any_below : (ℕ → Bool) → ℕ → Bool
 is_any_below p zero = false
 is_any_below p (suc n) = is_any_below p n || p n
 
--- The number that was found below n, if there is one. Otherwise n if n passes the test, else None.
+-- The third argument is the number that was found below n, or None. If a number was found, it is the result. If none was, the
+-- result is n if n passes the test, and None otherwise.
 abbrev pub found_or : (ℕ → Bool) → ℕ → Option ℕ → Option ℕ
 found_or p n (Some i) = Some i
 found_or p n None = if p n then Some n else None

@@ -32,11 +32,11 @@ ChoicesMeet = (order k : ℕ) (held : ℕ → Bool) (taken : Taken) (m : Machine
 -- the block at frame `first` of machine n. `refused` is the step that refuses the request.
 pub record IsByNeed {A : Type 0} (order k : ℕ) (m : Machine) (served : ℕ → Machine → Step A)
     (refused step : Step A) : Type 0 where
-  -- if a block is found, no slab is freed
+  -- if a free block is large enough, no slab is freed
   pub found : (first : ℕ) → choice order m k ≡ Some first → step ≡ served first m
-  -- if a block is found only after all empty slabs are freed, exactly these are freed first
+  -- if no free block is large enough, but one would be after all empty slabs are freed, exactly these slabs are freed first
   pub reaps : (first : ℕ) → choice order m k ≡ None → choice order (reaped m) k ≡ Some first → step ≡ served first (reaped m)
-  -- if no block is found even then, the request is refused
+  -- if no free block would be large enough even then, the request is refused
   pub stays : choice order m k ≡ None → choice order (reaped m) k ≡ None → step ≡ refused
 
 -- an alloc frees empty slabs only on demand ..

@@ -44,7 +44,7 @@ abbrev pub put_rising : {X : Type 0} → (X → ℕ) → X → List X → List X
 put_rising key x [] = x ∷ []
 put_rising key x (y ∷ ys) = if nat_lt (key x) (key y) then x ∷ (y ∷ ys) else y ∷ put_rising key x ys
 
--- the least number from n on that is not in the list; the list rises and has no number below n
+-- the least number that is at least n and not in the list; the list rises and has no number below n
 abbrev pub least_missing : ℕ → List ℕ → ℕ
 least_missing n [] = n
 least_missing n (x ∷ xs) = if x == n then least_missing (n + 1) xs else n

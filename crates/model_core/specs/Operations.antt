@@ -55,11 +55,11 @@ read_step place len m =
     else (if not (in_reach m place len) then refuse ReadRefusal.OutOfReach m
     else record { answer = Ok (filter_map m.bytes (range_with_len place len)); machine = m })
 
--- what the bytes become when `new` is written from a place on
+-- what the bytes become when `new` is written, beginning at a place
 abbrev pub written : ℕ → List ℕ → (ℕ → Option ℕ) → ℕ → Option ℕ
 written place new bytes p = if nat_le place p && nat_lt p (place + length new) then slice_get new (p - place) else bytes p
 
--- Writes bytes from a place on. The answer is the number of bytes, or None if the range is not in reach.
+-- Writes bytes, beginning at a place. The answer is the number of bytes, or None if the range is not in reach.
 unfoldable pub write_step : ℕ → List ℕ → Machine → Step (Option ℕ)
 write_step place new m =
     if in_reach m place (length new)

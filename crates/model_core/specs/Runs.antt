@@ -12,7 +12,7 @@ pub data Operation : Type 0 where
   Alloc : ℕ → Operation
   -- frees the page block at this frame
   Free : ℕ → Operation
-  -- writes bytes from a place on
+  -- writes bytes, beginning at a place
   Write : ℕ → List ℕ → Operation
   -- makes a cache with this size, alignment and pattern
   Create : ℕ → ℕ → List ℕ → Operation

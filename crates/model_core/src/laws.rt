@@ -20,9 +20,9 @@ pub fn choices_meet()
     ensures { ChoicesMeet }
 {}
 
-/// An alloc, and a take that needs a new slab, free empty slabs only on demand. If a block is found, no slab is freed. If one is
-/// found only after all empty slabs of all caches are freed, these are freed first. If none is found even then, the step is
-/// refused and the machine is unchanged.
+/// An alloc, and a take that needs a new slab, free empty slabs only on demand. If a free block is large enough, no slab is
+/// freed. If none is large enough, but one would be after all empty slabs of all caches are freed, these slabs are freed first.
+/// If none would be large enough even then, the step is refused and the machine is unchanged.
 pub fn reaps_by_need()
     ensures alloc { AllocReaps }
     ensures take { TakeReaps }
@@ -35,8 +35,8 @@ pub fn stays_well_formed()
     ensures run { RunsWellFormed }
 {}
 
-/// The taken blocks of a well formed machine are sound. Each page block allocated or freed, each slab made, and
-/// each slab freed by a reap adds or removes one taken block. So the laws of blocks determine the free blocks.
+/// The taken blocks of a well formed machine are sound. Each page block that is allocated or freed, each slab that is made, and
+/// each slab that a reap frees adds or removes one taken block. So the laws of blocks determine the free blocks.
 pub fn taken_is_sound()
     ensures sound { TakenSound }
     ensures alloc { AllocTakes }

@@ -302,8 +302,8 @@ some_entry (entry ∷ entries) some = refl
 abbrev lines_in : List RunLine → List (List ℕ)
 lines_in runs = map (λ run. run.line) runs
 
--- Suppose that the later kept lines, run alone, give the own list of the later events. Then the kept lines from this event on,
--- run alone, give the own list from this event on.
+-- Suppose that the later kept lines, run alone, give the own list of the later events. Then the line of this event, if it is
+-- kept, and the later kept lines, run alone, give the own list of this event and the later events.
 one_event : (limit order t : ℕ) (line : List ℕ) (event : Event) (w v : World) (later : List RunLine) (more : List Event) → 3 ≤ order → reading_of line ≡ Ok (Some event)
     → Beside limit order t w v
     → ((next : World) → Beside limit order t (world_step limit order event w).world next

@@ -81,8 +81,8 @@ no_times test (x ∷ xs) none = go (test x) none (no_times test xs)
     go true none later = absurd (false≢true (sym none))
     go false none later = omega (arith, later none)
 
--- Let each superblock in `xs` be tenant t's, no two in the same slot. If `ys` has a superblock of t in each of these
--- slots, at least as many superblocks in `ys` have an owner as there are superblocks in `xs`.
+-- Suppose that each superblock in `xs` is tenant t's, and that no two are in the same slot. If `ys` has a superblock of t in each
+-- of these slots, at least as many superblocks in `ys` have an owner as there are superblocks in `xs`.
 pigeons : (t : ℕ) (xs ys : Owners) → list_all (is_of t) xs ≡ true → ((u : ℕ) → times (is_owner t u) xs ≤ 1)
     → ((u : ℕ) → list_any (is_owner t u) xs ≡ true → list_any (is_owner t u) ys ≡ true) → length xs + nobodys ys ≤ length ys
 pigeons t [] ys all once there = omega (arith, free_few ys)
@@ -115,8 +115,9 @@ both t (Some x ∷ xs) taken own =
     let parts = and_parts (x.tenant == t) (list_all (is_own_or_free t) xs) own in
     and_from (x.tenant == t) (list_all (is_of t) xs) parts.0 (both t xs taken parts.1)
 
--- Let each superblock in `alone` be free or the tenant's, no two in the same slot. If `whole` has as many superblocks as `alone`,
--- the same slots of the tenant, and a free superblock, `alone` has a free superblock too.
+-- Suppose that each superblock in `alone` is free or the tenant's, and that no two of the tenant's are in the same slot. If
+-- `whole` has as many superblocks as `alone`, the same slots of the tenant, and a free superblock, `alone` has a free superblock
+-- too.
 pub alone_has_room : (t : ℕ) (whole alone : Owners) (found : Option ℕ) → list_all (is_own_or_free t) alone ≡ true → ((u : ℕ) → times (is_owner t u) alone ≤ 1)
     → ((u : ℕ) → list_any (is_owner t u) alone ≡ list_any (is_owner t u) whole) → length alone ≡ length whole → position is_none alone ≡ found
     → is_none (position is_none whole) ≡ false → is_none found ≡ false

@@ -31,7 +31,7 @@ KeepsOwn ended t before after given taken (Err KeepError.Feed) = HasKept t befor
 KeepsOwn ended t before after given taken (Err KeepError.Drain) =
     (lines : List (List ℕ)) × (line : List ℕ) × HasCome ended given (lines ++ line ∷ []) × IsKeptShort t before after lines line taken
 
--- the result names the one that failed, the feed or the drain; it is Ok if neither failed
+-- the result names the end that failed, the feed or the drain; it is Ok if neither failed
 abbrev pub NamesEnd : Result (Unit {0}) KeepError → Bool → Bool → Type 0
 NamesEnd (Ok done) feed drain = (feed ≡ false) × (drain ≡ false)
 NamesEnd (Err KeepError.Feed) feed drain = (feed ≡ true) × (drain ≡ false)

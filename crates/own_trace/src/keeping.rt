@@ -46,15 +46,15 @@ pub fn keep<F: Feed, D: Drain>(
 ) -> Result<(), KeepError>
     requires feed_fine { F.has_failed feed.old ≡ false }
     requires drain_fine { D.has_failed drain.old ≡ false }
-    // The bytes given and taken during the call and their relation, for any world that the kernel showed. Even if the bytes of
-    // the feed are not known, the number of bytes given is known.
+    // There are bytes that the feed gave and bytes that the drain took during the call, and `KeepsOwn` relates them, for any
+    // world that the kernel showed. Even if the bytes of the feed are not known, the number of bytes given is known.
     ensures kept { (given : List ℕ) × (taken : List ℕ)
         × Consumes (F.remaining feed.old) (F.remaining feed.new) given
         × Appends (D.contents drain.old) (D.contents drain.new) taken
         × KeepsOwn (F.has_ended feed.new) tenant kernel.old kernel.new given taken result
         × (F.room_left feed.new + length given ≡ F.room_left feed.old) }
     ensures ended { OnOk result (F.has_ended feed.new ≡ true) }
-    // The bytes given are then all that the feed had.
+    // If the feed has ended, the bytes given are all that it had.
     ensures whole { F.has_ended feed.new ≡ true → IsAtEnd (F.remaining feed.new) }
     ensures failed { NamesEnd result (F.has_failed feed.new) (D.has_failed drain.new) }
 {

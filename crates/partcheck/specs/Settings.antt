@@ -40,7 +40,7 @@ abbrev pub IsCheckRequestedBy : List Text → Settings → Type 0
 IsCheckRequestedBy words settings = let rows = matches_of check_command_line words in
     AsksCheck (λ name. one_of name rows) (λ name. first_of name rows) settings
 
--- clap's model takes these words
+-- clap's model accepts these words
 unfoldable pub IsCheckInOrder : List Text → Type 0
 IsCheckInOrder words = takes check_command_line words ≡ true
 
@@ -54,11 +54,11 @@ abbrev pub IsNoCheck : (read whole : Text → Option Text) → Outcome → Type 
 IsNoCheck read whole outcome =
     (AsksNoSizes read × IsBadLine bad_size_text outcome) ⊎ IsNoFile (whole (codes "TRACE")) outcome ⊎ IsNoFile (whole (codes "REPLIES")) outcome
 
--- the kinds of error for which clap's model refuses these words, or none if it takes them
+-- the kinds of error for which clap's model refuses these words, or none if it accepts them
 unfoldable pub check_faults : List Text → Kinds
 check_faults words = fault_of check_command_line words
 
--- why these words are refused: clap's model refuses them, or it takes them but their values give no settings
+-- why these words are refused: clap's model refuses them, or it accepts them, but their values give no settings
 abbrev pub IsCheckRefusedFor : List Text → Outcome → Type 0
 IsCheckRefusedFor words outcome = let rows = matches_of check_command_line words in
     IsRefusedBy (check_faults words) outcome

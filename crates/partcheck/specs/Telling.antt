@@ -55,11 +55,11 @@ begin_text none text begin = if is_shown_plain none text then flat_map plain_byt
 abbrev pub cut_mark : Bool → List ℕ
 cut_mark is_cut = if is_cut then 226 ∷ 128 ∷ 166 ∷ [] else []
 
--- the first bytes of a text, at most `most`, with a mark if the text is cut
+-- the first `most` bytes of a text, with a mark if the text is cut
 unfoldable pub excerpt_of : (none : List ℕ) → (most : ℕ) → (text : List ℕ) → List ℕ
 excerpt_of none most text = begin_text none text (take most text) ++ cut_mark (nat_lt most (length text))
 
--- the first bytes of the text, at most `most`, or `none` if there is no text
+-- the first `most` bytes of the text, with a mark if the text is cut, or `none` if there is no text
 abbrev pub excerpt_text : (none : List ℕ) → (most : ℕ) → Option (List ℕ) → List ℕ
 excerpt_text none most None = none
 excerpt_text none most (Some text) = excerpt_of none most text

@@ -1,4 +1,4 @@
-//! Checks the replies to a trace: reads both in step, and prints the first reply that breaks a promise.
+//! Checks the replies to a trace: reads the trace and the replies together, and prints the first reply that breaks a promise.
 //!
 //! `partcheck --order S --superblocks N --tenants T TRACE REPLIES`
 //!

@@ -135,7 +135,7 @@ fn lines_read(text: &[u8]) -> Option<&[u8]>
     }
 }
 
-/// Writes the first bytes of a text, at most `most`, or `none` if there is no text.
+/// Writes the first `most` bytes of a text, with a mark if the text is cut. Writes `none` if there is no text.
 fn write_shown<W: Write>(
     out: &mut W,
     text: Option<&[u8]>,
@@ -164,7 +164,7 @@ fn cut_mark(is_cut: bool) -> &'static str
     if is_cut { "…" } else { "" }
 }
 
-/// Returns the first bytes of a text, at most `most`.
+/// Returns the first `most` bytes of a text, or the whole text if it is shorter.
 fn front(text: &[u8], most: usize) -> &[u8]
     ensures { result.now ≡ take most text.now }
 {

@@ -92,8 +92,8 @@ cut_begins stays m k k' ended given more taken done line tally new (inr (is_over
     (cut_first m.only k k' _ (lines_of_trace given) done line [] taken tally new.shows (all ∙ sym (append-nil _)) cut)
     )
 
--- Let a trace begin with the bytes given, and have no more bytes if the feed has ended. Then the bytes taken are a prefix of the
--- text shown for the trace, for every result of the replay.
+-- Suppose that a trace begins with the bytes given, and has no more bytes if the feed has ended. Then the bytes taken are a
+-- prefix of the text shown for the trace, for every result of the replay.
 pub begins : ShownStays → (m : MachineOptions) (k k' : KernelContent) (ended : Bool) (given more taken : List ℕ) (replayed : Result Tally ReplayError) → IsNew m k
     → Replays ended m.only k k' given taken replayed → IsDone replayed ended → (ended ≡ true → more ≡ [])
     → IsBeginning taken (shown_replies m (lines_of_trace (given ++ more)))
@@ -125,7 +125,8 @@ answers stays m k k' ended given taken (Err (Failed.Feed tally)) true flushed ne
 answers stays m k k' ended given taken (Err (Failed.Feed tally)) false flushed new ran done own = ran.shown _ new.shows ∙ at_order m k (ended_lines given) new
 answers stays m k k' ended given taken (Err (Failed.Drain tally)) unsent flushed new ran done own = unwritten stays m k k' ended given taken (Err (Failed.Drain tally)) new ran done
 
--- if the tally is right for the bytes taken, subtracting `unwritten` makes it right for these bytes without the last `unwritten`
+-- if the tally is right for the bytes taken, subtracting `unwritten` makes it right for all of these bytes except the last
+-- `unwritten`
 counted : (tally : Tally) (lines : List (List ℕ)) (taken : List ℕ) (unwritten : ℕ) → Counts tally lines taken
     → Counts (without_unwritten tally unwritten) lines (take (length taken - unwritten) taken)
 counted tally lines taken unwritten counts =
@@ -198,8 +199,8 @@ given_so_far (Err (Failed.Feed tally)) true flushed ended given more done over =
 given_so_far (Err (Failed.Feed tally)) false flushed ended given more done over = (more, refl)
 given_so_far (Err (Failed.Drain tally)) unsent flushed ended given more done over = (more, refl)
 
--- Let P be true of every trace that begins with the bytes given and has no more bytes if the feed has ended. Then P is true of
--- the trace that the feed reads, if it is known.
+-- Suppose that P is true of every trace that begins with the bytes given and, if the feed has ended, has no more bytes. Then P is
+-- true of the trace that the feed reads, if that trace is known.
 pub of_trace : (P : List ℕ → Type 0) (known left : Option (List ℕ)) (ended : Bool) (given : List ℕ) → Consumes known left given → (ended ≡ true → IsAtEnd left)
     → ((more : List ℕ) → (ended ≡ true → more ≡ []) → P (given ++ more)) → IfSome known P
 of_trace P None left ended given consumed over fact = tt

@@ -15,7 +15,8 @@ abbrev pub with_notes : {N : Type 0} → Noting N → MachineOptions → List (L
 with_notes noting m lines notes =
     noted_lines noting m.only cache_limit m.config.order 1 lines (opening_world m.config.superblocks m.config.tenants) notes
 
--- The notes `notes`, and in addition `tail`, if it is faulty. `tail` is an unfinished line that follows these lines.
+-- The notes `notes`, to which the fault of `tail` is added if `tail` is faulty. `tail` is an unfinished line that follows these
+-- lines.
 abbrev pub with_unended : {N : Type 0} → Noting N → List (List ℕ) → List ℕ → N → N
 with_unended noting lines tail notes = noted_fault noting (suc (length lines)) (take 256 tail) (reading_of tail) notes
 

@@ -1,5 +1,5 @@
--- Calls on two machines, one with 2 superblocks and one with 3, where no superblock has an owner. And an instance of the law of
--- threads.
+-- Calls on two machines, one with 2 superblocks and one with 3, where no superblock has an owner. And an instance of the law
+-- `MayChangeThreads`.
 use Rattle.std.proofs.Common.{◌≡◌, [], ◌∷◌, Some, true, codes, refl, subst, arith}
 use base.Shift.{Keyless}
 use denote.RawPtr.{block_ptr}

@@ -1,7 +1,8 @@
--- An instance of the law of offsets: a free at place 4097. And an instance of the law of sights with two tenants. Each tenant
--- gets a superblock by a line, allocates a frame in it, and stores 100 bytes there. Tenant 1 allocates by an event that is
--- passed as numbers, tenant 0 by a direct call. Then there is a blank line. Tenant 1 stores once more, at its own place 104.
--- Tenant 0's last byte is at tenant 0's place 104. Tenant 0 loads this byte, and reads it by a line and by a direct call.
+-- An instance of the law `OffsetsAreRefused`: a free at place 4097. And an instance of the law `OwnSightsOfCalls` with two
+-- tenants. Each tenant gets a superblock by a line, allocates a frame in it, and stores 100 bytes there. Tenant 1 allocates by an
+-- event that is passed as numbers, tenant 0 by a direct call. Then a blank line is run. Tenant 1 stores once more, at its own
+-- place 104. Tenant 0's last byte is at tenant 0's place 104. Tenant 0 loads this byte, and reads it by a line and by a direct
+-- call.
 use Rattle.std.proofs.Common.{◌≡◌, ℕ, List, [], ◌∷◌, codes, refl, arith}
 use Rattle.std.specs.Prelude.{replicate}
 use Rattle.std.specs.Fmt.{digits}

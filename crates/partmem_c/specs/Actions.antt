@@ -29,7 +29,7 @@ pub data Done : Type 0 where
   -- an action of the kernel without a call of the library: an event, a store or a load
   Direct : Action → Done
 
--- if this is done, kernel k becomes k', as the contract says
+-- what was done turns kernel k into k', as the contract of the function that does it says
 abbrev pub Did : KernelContent → Done → KernelContent → Type 0
 Did k (Line line text) k' = AnswersLine k (reading_of line) k' text × IsKernel k'
 Did k (Event a bytes numbers buffer buffer') k' =
@@ -48,7 +48,7 @@ IsOfReading (Ok (Some event)) text actions = (reply : Reply) × (actions ≡ Run
 IsOfReading (Ok None) text actions = (actions ≡ []) × (text ≡ [])
 IsOfReading (Err fault) text actions = (actions ≡ []) × (text ≡ text_of (record { addressee = Addressee.Nobody; body = Body.Fault fault }))
 
--- `actions` are the actions of this one thing that was done
+-- `actions` are the actions of the kernel in one thing that was done: in a line, an event, a call or an action
 abbrev pub IsOf : Done → List Action → Type 0
 IsOf (Line line text) actions = IsOfReading (reading_of line) text actions
 IsOf (Event a bytes numbers buffer buffer') actions = (event : events.Event) × (reply : Reply)

@@ -95,8 +95,8 @@ reaped_frames (Some numbers) = if numbers.kind == REAPED then numbers.first else
 abbrev pub read_over : List ℕ → List ℕ → List ℕ
 read_over bytes to = take (min (length bytes) (length to)) bytes ++ drop (min (length bytes) (length to)) to
 
--- The kernel ran this event, and `numbers` are the numbers of the reply. The reply has at most 64 bytes. As many of them as fit
--- are copied over the front of the buffer.
+-- The kernel ran this event, and `numbers` are the numbers of the reply. The reply has at most 64 bytes. As many of these bytes
+-- as fit are copied over the front of the buffer.
 pub record ReadsOver (old : KernelContent) (event : Event) (new : KernelContent) (numbers : ReplyNumbers) (to to' : List ℕ)
     : Type 0 where
   pub reply : Reply

@@ -111,7 +111,7 @@ answered_bytes (Body.Fault fault) = []
 abbrev pub machine_status : Option KernelContent → ℕ
 machine_status held = if is_some held then DONE else NO_MACHINE
 
--- the status of a call that requires a machine and an event: the first error that applies, or else this status
+-- the status of a call that requires a machine and an event: the first error that applies, or else the status that is given
 abbrev pub status_of_event : Option KernelContent → RequestNumbers → List ℕ → ℕ → ℕ
 status_of_event held a bytes status =
     if is_some held then (if is_some (requested_event a bytes) then status else NOT_AN_EVENT) else NO_MACHINE
@@ -143,7 +143,7 @@ pub record RunsEvent (old new : Option KernelContent) (a : RequestNumbers) (byte
   pub says : requested_event a bytes ≡ Some event
   pub answers : AnswersEvent before event after numbers buffer buffer'
 
--- whatever the bytes, the numbers `a` are an event; the held kernel ran it, and any buffer is unchanged
+-- With any bytes, the numbers `a` are an event. The held kernel ran this event, and any buffer is unchanged.
 abbrev pub RunsApart : Option KernelContent → Option KernelContent → RequestNumbers → ReplyNumbers → Type 0
 RunsApart old new a numbers = (bytes buffer : List ℕ) → RunsEvent old new a bytes numbers buffer buffer
 

@@ -55,7 +55,8 @@ untaken FrameKind.Full frame order = (frame, 0)
 untaken FrameKind.Partial frame order = (frame, 0)
 untaken FrameKind.Empty frame order = (frame, 0)
 
--- `around` is the first frame and the order of the taken block that contains the frame. If no taken block does, it is `untaken`.
+-- `around` is the first frame and the order of the taken block that contains the frame. If no taken block contains the frame,
+-- `around` is what `untaken` returns.
 pub record AreAround (k : KernelContent) (t frame : ℕ) (kind : FrameKind) (around : ℕ × ℕ) : Type 0 where
   pub taken : Option (ℕ × ℕ)
   pub block : MatchOption taken (IsTaken (taken_of (holding_of t k.buddy)) frame → ⊥)

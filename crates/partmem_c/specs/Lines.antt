@@ -59,7 +59,7 @@ pub record IsNoLine (old : KernelContent) (line buffer : List ℕ) (new : Kernel
   pub kernel : new ≡ old
   pub same_buffer : buffer' ≡ buffer
 
--- if there is a count, the line was answered in full; if not, the line has a line feed and nothing was done
+-- if the number of written bytes is given, the line was answered in full; if not, the line has a line feed and nothing was done
 abbrev pub AnswersOrNot : KernelContent → List ℕ → List ℕ → KernelContent → List ℕ → Option ℕ → Type 0
 AnswersOrNot old line buffer new buffer' counted =
     MatchOption counted (IsNoLine old line buffer new buffer') (λ written. AnswersWhole old line buffer new buffer' written)

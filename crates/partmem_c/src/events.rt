@@ -38,7 +38,7 @@ pub const POOL: u32 = 5;
 pub const ALLOC: u32 = 6;
 /// The tenant frees the page block that begins at frame `first`.
 pub const FREE: u32 = 7;
-/// The tenant reads `second` bytes, 1 to 64, from place `first` on. A read of any other number of bytes is also an event, which
+/// The tenant reads `second` bytes, 1 to 64, from place `first` on. A read of any other number of bytes is also an event, but it
 /// is refused.
 pub const READ: u32 = 8;
 /// The tenant writes the 1 to 64 bytes that are passed, from place `first` on.
@@ -168,8 +168,8 @@ fn some_bytes<const N: usize>(bytes: &[u8]) -> Option<ArrayVec<u8, N>>
 /// Runs the event with these numbers, and stores its reply as numbers in `reply`. `bytes` are the bytes of a write or the pattern
 /// of a new cache; no other event uses them.
 ///
-/// The bytes of a read are copied to the front of `buffer`. It must have at least `MOST_BYTES` bytes for every event. The status
-/// of a refused event is `DONE`, and its reply is the refusal.
+/// The bytes of a read are copied to the front of `buffer`. For every event, the buffer must have at least `MOST_BYTES` bytes.
+/// The status of a refused event is `DONE`, and its reply is the refusal.
 ///
 /// Fails with `NO_MACHINE`, `NOT_AN_EVENT` or `BUFFER_TOO_SMALL`. The reply and the buffer are then unchanged.
 #[unsafe(no_mangle)]

@@ -101,8 +101,8 @@ pub extern "C" fn partmem_report(
     put_figures(kernel, tenant, figures)
 }
 
-/// Fills in the figures of a tenant, which were all zeros, and returns the status. If there is no such tenant, the figures stay
-/// zeros.
+/// Stores the figures of a tenant in `figures`, which must be all zeros, and returns the status. If there is no such tenant,
+/// `figures` stays all zeros.
 fn put_figures(kernel: &Kernel, tenant: u32, figures: &mut Figures) -> u32
     requires { figures.old ≡ no_figures }
     ensures { PutsFigures kernel.now tenant result figures.new }
@@ -114,7 +114,7 @@ fn put_figures(kernel: &Kernel, tenant: u32, figures: &mut Figures) -> u32
     DONE
 }
 
-/// Fills in the figures of a report, which were all zeros.
+/// Stores the figures of a report in `figures`, which must be all zeros.
 fn put_report(report: &Report, figures: &mut Figures)
     requires { figures.old ≡ no_figures }
     ensures { figures.new ≡ figures_of_report report.now }

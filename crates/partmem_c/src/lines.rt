@@ -215,8 +215,8 @@ fn answer_request(
 }
 
 /// Does what [`answer_request`] does for the command with the number `COMMAND`. Each command has its own instance with one
-/// caller. A function with one caller is always inlined. So the compiler knows, where an answer is written, which answers are
-/// possible.
+/// caller. A function with one caller is always inlined. So in the code that writes an answer, the compiler knows which answers
+/// are possible.
 #[inline]
 fn answer_as<const COMMAND: usize>(
     tenant: u32,

@@ -1,4 +1,5 @@
--- The text of a band's cells: an SVG path for each tone.
+-- The text of a band's cells: an SVG path for each tone. The tone of a cell is the kind of frames that it shows, and how many
+-- quarters of its frames are taken.
 use Rattle.std.specs.Prelude.{◌≡◌, ℕ, ◌==◌, ◌||◌, Bool, if◌then◌else◌, nat_lt, min, List, [], ◌∷◌, ◌++◌, codes, decimal, flat_map, filter, length}
 use Rattle.std.specs.List.{AllZip, concat}
 use Rattle.kernel_core.specs.declared.frames.FrameKind.{FrameKind}

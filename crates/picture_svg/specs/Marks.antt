@@ -35,8 +35,8 @@ refusals_text columns t y gap =
     concat (refusals_begin y gap ∷ flat_map (refusal_mark columns t y) (range_with_len 0 (length columns)) ∷ codes "\"/>\n"
     ∷ [])
 
--- The step to the number of free frames in blocks of order k and above, at the beginning of a column. It is empty if the previous
--- column has the same number.
+-- The step of an outline at the beginning of a column: the outline rises or falls to the number of free frames in blocks of order
+-- k and above. The text is empty if the previous column has the same number.
 unfoldable pub turn_text : List Column → ℕ → ℕ → ℕ → List ℕ
 turn_text columns t k column = if free_in_column columns t k column == free_before columns t k column then []
     else codes "H" ++ (decimal column ++ (codes "V" ++ decimal (free_in_column columns t k column)))

@@ -7,13 +7,13 @@ use Rattle.frame_picture.specs.declared.rectangles.Rectangle.{Rectangle}
 use Rattle.picture_svg.specs.declared.svg.TheConstants.{ABOVE, LEFT, STYLE, WHOLE_WIDTH, WIDTH}
 use Rattle.picture_svg.specs.Sizes.{lower}
 
--- the known bytes of a writer have grown by a text with this property
+-- the bytes that a writer has taken, if they are known, have grown by a text with this property
 pub record AppendsText (old new : Option (List ℕ)) (IsText : List ℕ → Type 0) : Type 0 where
   pub text : List ℕ
   pub appended : Appends old new text
   pub is : IsText text
 
--- if the result of a write is `Ok`, the known bytes of the writer have grown by a text with this property
+-- if the result of a write is `Ok`, the bytes that the writer has taken have grown by a text with this property
 abbrev pub WritesText : {E : Type 0} → Result (Unit {0}) E → Option (List ℕ) → Option (List ℕ) → (List ℕ → Type 0) → Type 0
 WritesText result old new IsText = OnOk result (AppendsText old new IsText)
 

@@ -371,7 +371,7 @@ fn draw_cells<W: Write>(
     Ok(())
 }
 
-/// Draws the rectangles of a tone whose last column is column `end` - 1, from the lowest row up.
+/// Draws those rectangles of a tone that end with column `end` - 1, from the lowest row up.
 fn draw_ended<W: Write>(
     out: &mut W,
     tone: Tone,
@@ -732,8 +732,8 @@ fn draw_lines_axis<W: Write>(out: &mut W, history: &History, foot: u32) -> io::R
     )
 }
 
-/// Returns the distance of the end of line number `line` from the left edge of the first column. Each line of a column gets the
-/// same share of the column's width.
+/// Returns the distance from the left edge of the first column to the point where line number `line` of the trace ends. Each line
+/// of a column gets the same share of the column's width.
 fn way_of(history: &History, line: u32) -> u32 {
     let lines = u64::from(history.width()).saturating_mul(history.columns().len() as u64);
     let way = (u64::from(line) * u64::from(WIDTH))

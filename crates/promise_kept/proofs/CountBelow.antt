@@ -1,5 +1,5 @@
--- How many of the numbers below a bound pass a test. The lemmas are about the halves of blocks, multiples, two tests, blocks that
--- share no frame, and lists.
+-- Lemmas that say how many of the numbers below a bound pass a test. They are about the halves of blocks, multiples, two tests,
+-- blocks that share no frame, and lists.
 use Rattle.std.proofs.Common.{◌≡◌, ℕ, zero, suc, ◌+◌, ◌-◌, ◌*◌, ◌/◌, ◌%◌, ◌^◌, ◌<◌, ◌≤◌, Bool, true, false, not, ◌&&◌, ◌||◌, eqb, ltb, leb, List, [], ◌∷◌, length, refl, sym, ap, ◌∙◌, ⊎_elim, arith}
 use Rattle.std.specs.Prelude.{filter}
 use Rattle.std.specs.List.{list_any, AllByRecursion as Each}
@@ -33,7 +33,8 @@ two_bits true false = refl
 two_bits false true = refl
 two_bits false false = refl
 
--- block q of order k is clear, and the block of the next order that contains it is not clear
+-- Block q of order k is clear alone: all its frames pass the test, so it is clear, but the block of the next order that contains
+-- it is not clear.
 abbrev pub is_clear_alone : (ℕ → Bool) → ℕ → ℕ → Bool
 is_clear_alone ok k q = is_clear ok k q && not (is_clear ok (suc k) (q / 2))
 

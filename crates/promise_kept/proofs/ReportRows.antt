@@ -79,7 +79,7 @@ module _ {limit : ℕ} (order : ℕ) (c : Cache) (m : Machine) (w : IsWellFormed
   beside_there s p i j = let b : IsBeside c s p = beside_at c s p j in
       ap (λ x. live_beside (cache_as_known c) x) b.at ∙ beside_is order c m w in_c s b.index i (subst (λ n. b.index < n) (is_slab order c m w in_c s i).count b.index_in)
 
-  -- if a live object of a slab begins at place p, the slab is full exactly if it is seen as full at p
+  -- if a live object of a slab begins at place p, the slab is full exactly if `is_slab_full` of the known cache is true at p
   full_told : (s : Slab) (p : ℕ) → IsIn s c.slabs → IsIn p (places_in c s) → holdings.is_slab_full (cache_as_known c) p ≡ is_full s
   full_told s p i j = ap (λ ps. eqb (length ps) (layout c).count) (beside_there s p i j) ∙ go (is_full s) refl (is_slab order c m w in_c s i).count
     where

@@ -35,7 +35,7 @@ cache_as_known c = record {
 unfoldable pub holdings_of : Machine → Holdings
 holdings_of m = record { slots = m.slots; pages = m.blocks; caches = map cache_as_known m.caches }
 
--- the holder is live: a page block in which this place lies, or an object with this cache number and first place
+-- the holder is live: if it is a page block, a live page block contains the place; if it is an object, this object is live
 abbrev pub is_object_live : Holdings → Holder → ℕ → Bool
 is_object_live h Holder.Page place = list_any (in_block place) h.pages
 is_object_live h (Holder.Object number first) place = list_any (λ c. c.number == number && list_any (λ p. p == first) c.live) h.caches

@@ -189,7 +189,7 @@ ended_line window e len ends all = elim ends.ended [
 
 -- ---- the meaning of a line with single spaces
 
--- each line is in a case, and its meaning there is `reading_of` of the line
+-- each line is in one of the numbered cases, and the reading that belongs to this case is `reading_of` of the line
 abbrev pub SomeCase : Type 0
 SomeCase = (line : List ℕ) → (number : ℕ) × Case number line (reading_of line)
 
@@ -197,8 +197,8 @@ abbrev pub OneCase : Type 0
 OneCase = (line : List ℕ) (number other : ℕ) (reading second : Result (Option Event) LineFault)
     → Case number line reading → Case other line second → (other ≡ number) × (second ≡ reading)
 
--- If a line has at most 255 bytes and is a tenant's number, a command's word and arguments, with single spaces between them, it
--- reads as the command of this tenant that the arguments make.
+-- Suppose that a line has at most 255 bytes, and consists of a tenant's number, a command's word and arguments, with single
+-- spaces between them. Then the line reads as the command of this tenant that the arguments make.
 pub event_said : SomeCase → OneCase → (line first : List ℕ) (arguments : List (List ℕ)) (t : ℕ) (row : CommandRow Command) (command : Command)
     → strip_carriage_return line ≡ first ++ spaced (row.word ∷ arguments)
     → number_of first ≡ Some t → Contains tenant_rows row → IsPlainWord row.word → All IsPlainWord arguments
@@ -216,8 +216,8 @@ event_said some only line first arguments t row command text first_is has plain_
 
 -- ---- a line with single spaces in a window
 
--- if the window begins with these words, with single spaces between them, and then a line end, this line reads as this command of
--- this tenant
+-- if the window begins with these words, with single spaces between them, and a line end follows the words, this line reads as
+-- this command of this tenant
 pub is_read : SomeCase → OneCase → (window first : List ℕ) (arguments : List (List ℕ)) (e len t : ℕ) (row : CommandRow Command) (command : Command)
     → e ≤ length window → e ≤ 255 → EndsLine window e len → take e window ≡ first ++ spaced (row.word ∷ arguments)
     → number_of first ≡ Some t → Contains tenant_rows row → IsPlainWord row.word → All IsPlainWord arguments

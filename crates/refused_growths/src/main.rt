@@ -1,7 +1,7 @@
 //! Makes one call after a number of allocations, and prints the result of the call.
 //!
 //! Standard input is a line `SPENT CALL`. First SPENT allocations are made and freed, and then the call with the name CALL is
-//! made. In every run, `tests/refused-growths` refuses the allocation with one number, which is the same for all runs. So SPENT
+//! made. In every run, `tests/refused-growths` refuses allocation number N of the run, with the same N for all runs. So SPENT
 //! decides which allocation of the call is refused, and the test tries all of them.
 #![tactic(auto)]
 
@@ -71,7 +71,7 @@ fn booted(alloc: Global, config: Config) -> &'static str {
     }
 }
 
-/// Sizes of machines that are out of range: orders, superblocks and tenants.
+/// Bad sizes of machines: in each row the order, the number of superblocks or the number of tenants is out of range.
 const BAD: [(u32, u32, u32); 7] = [
     (2, 2, 2),
     (9, 2, 2),
@@ -100,7 +100,7 @@ fn badly_booted(alloc: Global) -> &'static str {
     "BadConfig"
 }
 
-/// The words of a command line that is accepted. Those of `ONLY_TWO` and `ORDER_TWO` are refused.
+/// The words of a command line that is accepted. The command lines `ONLY_TWO` and `ORDER_TWO` are refused.
 const IN_ORDER: [&str; 9] = [
     "--order",
     "3",

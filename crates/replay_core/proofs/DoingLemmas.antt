@@ -100,8 +100,8 @@ module _ {S : Type 0} (does : S → List ℕ → List ℕ → List ℕ → S →
   result_on (Ok x) now_of s mid s' bytes rest old now new gone h = gone_on s mid s' bytes rest (now_of x) old now new gone h
   result_on (Err e) now_of s mid s' bytes rest old now new gone h = stopped_on s mid s' bytes rest old now new gone h
 
-  -- Let the lines before `held ++ rest` be processed, and let `rest` be `part`, an LF and `after`. If the line `held ++ part` was
-  -- then processed in full, all lines before `after` were processed.
+  -- Suppose that the lines before `held ++ rest` were processed, and that `rest` is `part`, an LF and `after`. If the line
+  -- `held ++ part` was then processed in full, all lines before `after` were processed.
   pub gone_end : (s mid s' : S) (bytes held rest part after : List ℕ) (old now new : Option (List ℕ)) → HasGone does s bytes (held ++ rest) old now mid
       → IsOneLine held → IsOneLine part → rest ≡ (part ++ 10 ∷ []) ++ after → HasDone does mid (held ++ part) now new (Ok tt) s'
       → HasGone does s bytes after old new s'
@@ -115,8 +115,8 @@ module _ {S : Type 0} (does : S → List ℕ → List ℕ → List ℕ → S →
         appended = done.appended;
       })
 
-  -- Let the lines before `held ++ rest` be processed, and let `rest` be `part`, an LF and `after`. If the drain then failed in
-  -- the line `held ++ part`, it failed in a line of `bytes`.
+  -- Suppose that the lines before `held ++ rest` were processed, and that `rest` is `part`, an LF and `after`. If the drain then
+  -- failed in the line `held ++ part`, it failed in a line of `bytes`.
   pub stopped_end : (s mid s' : S) (bytes held rest part after : List ℕ) (old now new : Option (List ℕ)) (stopped : Stopped)
       → HasGone does s bytes (held ++ rest) old now mid → IsOneLine held → IsOneLine part → rest ≡ (part ++ 10 ∷ []) ++ after
       → HasDone does mid (held ++ part) now new (Err stopped) s' → HasStopped does s bytes old new s'
@@ -131,8 +131,8 @@ module _ {S : Type 0} (does : S → List ℕ → List ℕ → List ℕ → S →
     done = done;
   }
 
-  -- If more bytes are given, the lines that were processed stay the same, and the new bytes are left too. In between, the drain
-  -- may have sent what it took.
+  -- If more bytes are given, the lines that were processed stay the same, and the new bytes are appended to the bytes that are
+  -- left. In between, the drain may have sent what it took.
   pub gone_given : (s s' : S) (bytes rest more : List ℕ) (old now new : Option (List ℕ)) → HasGone does s bytes rest old now s' → Keeps now new
       → HasGone does s (bytes ++ more) (rest ++ more) old new s'
   gone_given s s' bytes rest more old now new gone kept = record {

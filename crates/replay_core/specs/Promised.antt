@@ -23,8 +23,8 @@ abbrev pub BeginsAllowed : Option ℕ → KernelContent → List (List ℕ) → 
 BeginsAllowed only before lines part = (superblocks tenants : ℕ) → Shows before (opening_world superblocks tenants) → 3 ≤ before.order
     → (rest : List ℕ) × IsAllowedText only cache_limit before.order superblocks tenants lines (part ++ rest)
 
--- The lines that were run are counted, and what was taken is the text of allowed replies to them, or a prefix of it if the drain
--- failed.
+-- The lines that were run are counted, and the drain took the text of allowed replies to these lines, or only a prefix of this
+-- text if the drain failed.
 abbrev pub TakesAllowed : Bool → Option ℕ → KernelContent → List ℕ → List ℕ → Result Tally ReplayError → Type 0
 TakesAllowed ended only before given taken (Ok tally) =
     Counts tally (lines_of_trace given) taken × IsAllowedOutput only before (lines_of_trace given) taken

@@ -1,4 +1,5 @@
-//! Runs quick lines one after another, whether or not they are answered in the drain's buffer.
+//! Runs quick lines one after another, whether or not they are answered in the drain's buffer. A quick line is a line that
+//! `quick_core` reads.
 
 ghost use Rattle.std.specs.Prelude.{◌≡◌, ◌+◌, ◌^◌, ◌<◌, ◌≤◌, [], Some, Ok, length, is_err, IfOk, IfSome, MatchResult};
 ghost use Rattle.quick_core.specs.Lines.{ReadsAs};

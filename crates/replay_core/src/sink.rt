@@ -24,7 +24,7 @@ pub trait Sink {
     // The effect of the beginning of a line whose end could not be read.
     ghost leaves: { Self → List ℕ → Self → Type 0 };
 
-    // At least this many more lines can be processed.
+    // At least `lines_left` more lines can be processed.
     ghost lines_left: { Self → ℕ };
 
     /// Runs and processes the quick lines at the front of a piece and returns the rest of it. The lines end in LF, or in CR LF if

@@ -78,8 +78,9 @@ mark_set summaries part after cell marked = elim (cases_lt part (length summarie
       (sym (ap (λ (ms : List Summary). get_or ms part any_summary) (set_past summaries part after ge) ∙ get_or_past summaries part any_summary ge)) (any_marked cell)
 ]
 
--- Let each summary allow what was left in its part. Let a step change places of only one part, and let `after` allow what is left
--- in this part after the step. Once this part's summary is set to `after`, each summary allows what is left in its part.
+-- Suppose that each summary allows what was left in its part, that a step changes places of only one part, and that `after`
+-- allows what is left in this part after the step. Then, once this part's summary is set to `after`, each summary allows what is
+-- left in its part.
 pub marked_part : (step : CellStep) (first size part low high : ℕ) (summaries : List Summary) (summary after : Summary) (all : Bool) (old new : List KeptByte)
     → ((k : ℕ) → part * size ≤ k → k < part * size + size → k / size ≡ part)
     → ((k : ℕ) → k / size ≡ part → (part * size ≤ k) × (k < part * size + size))

@@ -174,8 +174,7 @@ near_holder more begin end place (Holder.Object n p) before far le lt =
     let f = far n p refl in
     (omega (arith, b), omega (arith, f))
 
--- Let the reach be extended to the end of the bytes. Then every byte that an object left is within the reach after the bytes are
--- put.
+-- if the reach is extended to the end of the bytes, every byte that an object left is within the reach after the bytes are put
 pub near_put : (reach more : List ℕ) (holder : Holder) (begin : ℕ) (bytes : List ℕ) (from end : ℕ) → ((n : ℕ) → slice_index reach n ≤ slice_index more n)
     → ((n p : ℕ) → holder ≡ Holder.Object n p → p ≤ begin)
     → ((n p : ℕ) → holder ≡ Holder.Object n p → begin + length bytes ≤ p + slice_index more n) → (place : ℕ) (cell : Option Cell)
@@ -251,8 +250,8 @@ far_beside reach number first size begin end low high place (Holder.Object n p) 
     go true e = ap not (is_beside first size p (apart (eqb-true n number e)))
     go false e = refl
 
--- so once the bytes in the slab that objects of the cache did not leave are forgotten, only the places from `low` to `high - 1`
--- can have more bytes to forget
+-- Suppose that the bytes in the slab that no object of the cache left were forgotten. Then only the places from `low` to
+-- `high - 1` can have more bytes to forget.
 narrowed : (reach : List ℕ) (number first size begin end low high place : ℕ) (x : Option Cell) → place < 2 ^ 32
     → low ≡ max begin (first - size) → high ≡ min end (min (first + size + slice_index reach number) (2 ^ 64 - 1)) → IsNear reach place x
     → within low high (removed_of (not_beside number first size)) place (within begin end (removed_of (elsewhere number)) place x)
@@ -293,7 +292,8 @@ narrowed reach number first size begin end low high place (Some cell) small is_l
         (sym (far_beside reach number first size begin end low high place cell.holder small is_low is_high (over is) (under is) far near))
     go false false far off = refl
 
--- so these two steps together are the change for a take
+-- So the change for a take can be made in two steps. The first forgets the bytes in the slab that no object of the cache left.
+-- The second forgets, from `low` to `high - 1`, the bytes whose holders cannot share a slab with the object.
 pub taken_twice : (reach : List ℕ) (number first size : ℕ) (slab : Block) (begin end low high : ℕ) → begin ≡ 4096 * slab.first
     → end ≡ 4096 * (slab.first + 2 ^ slab.order) → low ≡ max begin (first - size)
     → high ≡ min end (min (first + size + slice_index reach number) (2 ^ 64 - 1))

@@ -27,7 +27,7 @@ pub(crate) trait HolderPredicate {
         ensures { IfSome result (λ told. (first : ℕ) → test self.now (Holder.Object number first) ≡ told) };
 }
 
-/// Returns the result of the test for the holders among these owners, if it is known to be the same for all of them. Otherwise
+/// Returns the result of the test for the holders in `owners`, if the result is known to be the same for all of them. Otherwise
 /// returns `None`.
 fn tells_of<T: HolderPredicate>(test: &T, owners: Owners) -> Option<bool>
     ensures { IfSome result (λ told. (h : Holder) → MayOwn owners h → T.test test.now h ≡ told) }
@@ -40,7 +40,7 @@ fn tells_of<T: HolderPredicate>(test: &T, owners: Owners) -> Option<bool>
     }
 }
 
-/// Returns true only if every holder among these owners passes.
+/// Returns true only if every holder in `owners` passes the test.
 pub(crate) fn passes_all<T: HolderPredicate>(test: &T, owners: Owners) -> bool
     ensures { result ≡ true → (h : Holder) → MayOwn owners h → T.test test.now h ≡ true }
 {
@@ -50,7 +50,7 @@ pub(crate) fn passes_all<T: HolderPredicate>(test: &T, owners: Owners) -> bool
     }
 }
 
-/// Returns true only if every holder among these owners fails.
+/// Returns true only if every holder in `owners` fails the test.
 pub(crate) fn fails_all<T: HolderPredicate>(test: &T, owners: Owners) -> bool
     ensures { result ≡ true → (h : Holder) → MayOwn owners h → T.test test.now h ≡ false }
 {

@@ -140,8 +140,8 @@ impl ShadowMemory {
         ensures { (c : KnownCache) → c.number ≡ number → c.size ≡ size → slab_around c first ≡ slab.now
             → Becomes self.old (left_slots self.old) (with_object first (Some c)) self.new }
     {
-        // The first change forgets the bytes in the slab that objects of the cache did not leave. The second forgets the bytes of
-        // other objects of the cache that overlap the object.
+        // The first change forgets the bytes in the slab that no object of the cache left. The second forgets the bytes of other
+        // objects of the cache that overlap the object.
         let own = u32::from(number);
         let low = u64::from(first.saturating_sub(size));
         let end_of_own = u64::from(first) + u64::from(size);

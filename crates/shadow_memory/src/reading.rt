@@ -1,4 +1,4 @@
-//! The bytes that a read may report.
+//! The bytes that a read may report. The read lies in one holder: a page block or an object.
 
 ghost use Rattle.std.specs.Prelude.{◌≡◌, ℕ, ◌+◌, ◌^◌, ◌<◌, ◌≤◌, true, length, option_map};
 ghost use Rattle.std.specs.Option.{option_copied};
@@ -13,8 +13,8 @@ use crate::left::ShadowMemory;
 use judge_core::{Held, HeldCache, LeftByte, RangeHolder};
 
 impl ShadowMemory {
-    /// Returns whether a read in this holder from `place` on may report these bytes. All of them are in slots that the tenant
-    /// holds.
+    /// Returns whether a read in this holder that begins at `place` may report these bytes. All of their places must be in slots
+    /// that the tenant holds.
     pub fn may_read(&self, held: &Held, holder: RangeHolder, place: u32, bytes: &[u8]) -> bool
         requires { (j : ℕ) → j < length bytes.now → has_place self.now (place + j) ≡ true }
         ensures { result ≡ may_all_be held.now (left_at self.now) (shown_holder holder) place bytes.now }
@@ -41,7 +41,7 @@ impl ShadowMemory {
         true
     }
 
-    /// Returns what was left `i` places after `place`. `kept` has the stored bytes from `place` on.
+    /// Returns what was left `i` places after `place`. `kept` has the stored bytes that begin at `place`.
     fn left_behind(&self, kept: &[KeptByte], place: u32, i: u32) -> Option<LeftByte>
         requires kept { AreFrom self.now place kept.now }
         requires low { place + i < 2 ^ 32 }
@@ -84,7 +84,8 @@ fn may_be_read(
     }
 }
 
-/// Returns whether this holder left this byte. If it did, a read may report the byte, and the fresh byte is not needed.
+/// Returns whether `left` is `byte` and was left by this holder. If so, a read may report the byte, and the fresh byte is not
+/// needed.
 fn is_left(holder: RangeHolder, left: LeftByte, byte: u8) -> bool
     ensures { (fresh : ℕ) → result ≡ true → may_be (shown_holder holder) fresh (Some (shown_cell left)) byte ≡ true }
 {

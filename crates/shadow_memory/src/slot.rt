@@ -1,4 +1,4 @@
-//! What was left in a slot.
+//! What was left in a slot: for each place, a byte and the page block or object that left it, or nothing.
 
 ghost use Rattle.std.specs.Prelude.{◌≡◌, ℕ, ◌+◌, ◌-◌, ◌*◌, ◌^◌, ◌<◌, ◌≤◌, Option, None, IfOk, length, option_map, replicate, slice_index_or};
 ghost use Rattle.judge_core.specs.Holders.{shown_cell};
@@ -72,7 +72,7 @@ impl SlotBytes {
         kept_at(&self.cells, index).left()
     }
 
-    /// Returns the stored bytes from `index` places after the slot's first place on. They may end before the slot does.
+    /// Returns the stored bytes that begin `index` places after the slot's first place. They may end before the slot does.
     pub fn kept_from(&self, index: usize) -> &[KeptByte]
         ensures len { length result.now ≤ length self.now.cells - index }
         ensures kept { (j : ℕ) → j < length result.now → shown_kept (slice_index_or result.now j Kept.Fresh)

@@ -39,8 +39,8 @@ pub(crate) fn left_in(slots: &[SlotBytes], order: u8, place: u32) -> Option<Left
     None
 }
 
-/// Returns the stored bytes from a place on, at most to the end of its slot. Returns no bytes if the place is in none of the
-/// slots.
+/// Returns the stored bytes that begin at a place and lie in its slot. They may end before the slot does. Returns no bytes if the
+/// place is in none of the slots.
 pub(crate) fn kept_from(slots: &[SlotBytes], order: u8, place: u32) -> &[KeptByte]
     requires order { order ≤ MOST_ORDER }
     requires whole { AllByRecursion (IsSlotWhole order) slots.now }

@@ -20,7 +20,8 @@ pub(crate) enum Owners {
     Any,
 }
 
-/// What may have been left at some places: the possible holders, and whether any of the bytes may be sure.
+/// What may have been left at some places: the possible holders, and whether any of the bytes may be sure. A byte is sure if it
+/// is surely still there.
 #[derive(Clone, Copy, Debug)]
 pub(crate) struct Summary {
     pub owners: Owners,

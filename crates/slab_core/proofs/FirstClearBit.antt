@@ -126,8 +126,8 @@ full_by_ones bytes at ones within small =
     sym (ap (λ n. bit_at (get_or bytes n 0) ((8 * at + j) % 8)) byte ∙ ap (bit_at (get_or bytes at 0)) bit)
     ∙ (eqb-true (bit_at (get_or bytes ((8 * at + j) / 8) 0) ((8 * at + j) % 8)) 1 (ones (8 * at + j) (omega arith)) ∙ sym (bit_at_ones 8 j less)))
 
--- Let i be at most n, and let p be true for the numbers from k to k + i - 1. If p is false for k + i, or if i is n, the search
--- for a false flag among the n flags of p from k on returns i.
+-- Suppose that i is at most n, that p is true for the numbers from k to k + i - 1, and that p is false for k + i unless i is n.
+-- Then the search for a false flag among the n flags of p that begin with that of k returns i.
 pub first_clear : (k n i : ℕ) (p : ℕ → Bool) → i ≤ n → ((j : ℕ) → k ≤ j → j < k + i → p j ≡ true) → (i < n → p (k + i) ≡ false) → position_or_len not (flags_from k n p) ≡ i
 first_clear k zero i p few ones clear = omega arith
 first_clear k (suc n) zero p few ones clear =
@@ -138,8 +138,8 @@ first_clear k (suc n) (suc i) p few ones clear =
     let rest = first_clear (suc k) n i p (omega arith) (λ j low high. ones j (omega arith) (omega arith)) (λ less. ap p (omega arith) ∙ clear (omega arith)) in
     ap (λ b. position_or_len not (b ∷ flags_from (suc k) n p)) up ∙ omega (arith, rest)
 
--- Let i be the first number below `bound` for which p is false, or `bound` if there is none. If n is at most `bound`, the search
--- for a false flag among the first n flags of p returns min i n.
+-- Suppose that i is the first number below `bound` for which p is false, or `bound` if there is none. If n is at most `bound`,
+-- the search for a false flag among the first n flags of p returns min i n.
 pub least_of : (n bound i : ℕ) (p : ℕ → Bool) → n ≤ bound → i ≤ bound → ((j : ℕ) → j < i → p j ≡ true) → (i < bound → p i ≡ false) → min i n ≡ position_or_len not (flags n p)
 least_of n bound i p few below ones clear = elim (cases_lt i n) [
   | inl less ↦

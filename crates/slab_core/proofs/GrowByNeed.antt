@@ -1,4 +1,5 @@
--- A slab made on demand: if a block is found only after all empty slabs are freed, they are freed first.
+-- Lemmas for a slab that is made on demand. If no free block is large enough, but one would be if all empty slabs were freed,
+-- they are freed first. The parts r, b and s are the memory, the buddy systems and the tables of the slabs.
 use Rattle.std.proofs.Common.{◌≡◌, ℕ, ◌<◌, true, false, map, Option, Some, None, refl, sym, ap, ◌∙◌, subst, arith}
 use Rattle.std.specs.Prelude.{option_map, is_some, MatchOption, IfSome, ◌==◌}
 use Rattle.model_core.specs.Blocks.{Block, IsChoice, IsWithout}
@@ -68,8 +69,8 @@ module _ {r r' : spaces.Content} {b b' : buddies.Content} {s s' : Content} {t : 
   pub reaped_shown : (m : Machine) → ShowsMachine r b s t m → ShowsMachine r' b' s' t (reaped m)
   reaped_shown m h = reaped_shows r r' b b' s s' t (idle_at (λ i. true) r s t) m g st h (idle_empty r b s t m w a h)
 
-  -- Let no free block be large enough. The block of order k that is found after the empty slabs are freed is then the block that
-  -- is found on demand. If slab o is made in this block, the machine has grown on demand.
+  -- Suppose that no free block is large enough. Then the block of order k that is found after the empty slabs are freed is the
+  -- block that is found on demand. If slab o is made in this block, the machine has grown on demand.
   module _ (k : ℕ) (o : Option Slab) (none : (m : Machine) → ShowsMachine r b s t m → choice s.top m k ≡ None)
       (chosen : (m : Machine) → ShowsMachine r' b' s' t m → choice s'.top m k ≡ option_map (λ p. p.first) o) where
     pub chosen_by_need : (m : Machine) → ShowsMachine r b s t m → choice_by_need s.top k m ≡ option_map (λ p. p.first) o

@@ -1,4 +1,5 @@
--- If the parts change only for one tenant, at one machine frame, all other tenants keep everything and the parts still agree.
+-- The parts are the memory, the buddy systems and the tables of the slabs. If they change only for one tenant, at one machine
+-- frame, all other tenants keep everything and the parts still agree.
 use Rattle.std.proofs.Common.{◌≡◌, ◌≢◌, ℕ, ◌+◌, ◌*◌, ◌/◌, ◌%◌, ◌^◌, ◌<◌, ◌≤◌, cond, length, Some, sym, ap, ◌∙◌, subst, ⊎_elim, arith}
 use Rattle.std.proofs.lemmas.Bool.{cases_eq}
 use Rattle.std.proofs.lemmas.List.{length-set}

@@ -68,8 +68,8 @@ pub record IsUsed (top c : ℕ) (m : Machine) (first : ℕ) : Type 0 where
   pub standing : slab_of shown first ≡ Some slab
   pub step : take_step top c m ≡ hand_out shown slab m
 
--- A take from cache c makes a slab at frame f on demand, and uses it. Before the object is taken, the machine with this slab is
--- `after`, and the parts show `after`.
+-- A take from cache c makes a slab at frame f on demand, and uses it. `after` is the machine that has this slab and from which
+-- the object is not taken yet. The parts r, b and s show `after`.
 pub record IsMade (top c : ℕ) (m : Machine) (r : spaces.Content) (b : buddies.Content) (s : Content) (t f : ℕ) : Type 0 where
   pub after : Machine
   pub shown : Cache

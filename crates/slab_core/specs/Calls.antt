@@ -13,7 +13,7 @@ use Rattle.slab_tables.specs.Content.{Content, kept_at, head_of, layout_numbers}
 use Rattle.slab_tables.specs.Changes.{made_more}
 use Rattle.machine_changes.specs.Shows.{machine_frame_of, is_inside, record_byte, IsSlab}
 
--- the `len` bytes of tenant t from `place` on are the pattern, repeated; the rest of the memory is as before
+-- the `len` bytes of tenant t that begin at `place` are the pattern, repeated; the rest of the memory is as before
 pub record IsFilled (r r' : spaces.Content) (t place len : ℕ) (pattern : List ℕ) : Type 0 where
   pub bytes : List ℕ
   pub long : length bytes ≡ len

@@ -45,7 +45,8 @@ pub record IsTurned (r r' : spaces.Content) (s s' : Content) (t : ℕ) (o : Foun
   pub live : (kept_at s'.kept o.machine_frame).live ≡ (kept_at s.kept o.machine_frame).live
 
 -- The bit of object o of cache c of tenant t is flipped, but the stored number of live objects of its slab is not yet updated.
--- Before the flip, the parts agreed, and o was free if `live` is true, or live if `live` is false.
+-- Before the flip, the parts (the memory, the buddy systems and the tables of the slabs) agreed. Object o was then free if `live`
+-- is true, or live if `live` is false.
 pub record IsToCount (r r' : spaces.Content) (b : buddies.Content) (s s' : Content) (t c : ℕ) (o : Found) (live : Bool) : Type 0 where
   pub tenant : t < length r.slots
   pub laws : SpaceLaws r

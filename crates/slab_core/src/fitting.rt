@@ -58,8 +58,8 @@ impl Slabs {
         has_free(buddy, t, k) || view.would_fit_in_slabs(&mut [0; MOST_WORDS], k)
     }
 
-    /// Returns the same as [`Slabs::would_fit`], for a caller that has found no free block large enough. Stores the set of
-    /// refused blocks in `self`, not on the stack.
+    /// Returns the same as [`Slabs::would_fit`], for a caller that has found no free block large enough. The set of blocks that
+    /// the search refuses is stored in `self`, not on the stack.
     #[cold]
     #[inline(never)]
     pub(crate) fn fits_by_need(&mut self, space: &Space, buddy: &Buddy, t: u8, k: u8) -> bool
@@ -93,7 +93,8 @@ struct View<'a> {
 }
 
 impl View<'_> {
-    /// Returns true if a block of order `k` would fit around an empty slab.
+    /// Returns true if a block of order `k` would fit around an empty slab: if some empty slab begins in an aligned block
+    /// of order `k` whose frames are not taken, except by empty slabs.
     fn would_fit_in_slabs(self, refused: &mut [u64], k: u8) -> bool
         requires tenant { self.tenant < length self.space.now.slots }
         requires order { k ≤ self.tables.now.top }

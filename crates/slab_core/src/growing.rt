@@ -26,8 +26,8 @@ use space_core::Space;
 impl Slabs {
     /// Makes the next slab of a cache whose slabs are all full.
     ///
-    /// If a block is found only after all empty slabs of the tenant are freed, frees them first. Returns `None` and changes
-    /// nothing if no block would be found even then.
+    /// If no free block is large enough, but one would be if all empty slabs of the tenant were freed, frees them first. Returns
+    /// `None` and changes nothing if no block would be found even then.
     #[inline(always)]
     pub(crate) fn grow(
         &mut self,

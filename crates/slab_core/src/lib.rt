@@ -62,8 +62,8 @@ pub use taking::Taken;
 #[derive(Debug, Drop)]
 pub struct Slabs {
     tables: Tables,
-    /// The set of blocks that a search has refused. It has at least one bit for each frame of the machine, which is enough for
-    /// the blocks of any order.
+    /// A set of blocks for the search in `fitting`: the blocks in which it has found a taken frame that lies in no empty slab.
+    /// The set has at least one bit for each frame of the machine, which is enough for the blocks of any order.
     refused: Vec<u64>,
 }
 
@@ -109,8 +109,8 @@ impl Slabs {
         self.tables.order()
     }
 
-    /// Returns the lists of the slabs of all caches. A node of a list is the machine frame at which a slab begins, and its key is
-    /// the slab's first frame in its tenant's numbering. [`slab_tables::ListId`] has the number of each list.
+    /// Returns the lists of the slabs of all caches. A node of a list is the machine frame at which a slab begins. The node's key
+    /// is the slab's first frame in the numbering of the slab's tenant. [`slab_tables::ListId`] has the number of each list.
     pub fn lists(&self) -> &Lists
         ensures same { result.now ≡ self.now.lists }
         ensures hold { ListsHold self.now }

@@ -112,8 +112,8 @@ pub(crate) fn machine_frame_in(tables: &Tables, space: &Space, t: u8, frame: u32
 
 /// Returns the machine frame of `frame`, which lies in slot `slot`. `superblock` is the slot's superblock, of `2^order` frames.
 ///
-/// Adds the difference between the first machine frame of the superblock and the first frame of the slot. If the difference wraps
-/// around, the sum wraps back. This takes fewer instructions than computing the frame's index in the slot first.
+/// Adds to `frame` the difference between the first machine frame of the superblock and the first frame of the slot. If the
+/// difference wraps around, the sum wraps back. This takes fewer instructions than computing the frame's index in the slot first.
 #[inline(always)]
 fn machine_frame_under(frame: u32, slot: u32, superblock: u16, order: u8) -> u32
     requires slot { slot ≡ frame / 2 ^ order }

@@ -31,7 +31,8 @@ pub struct ObjectSpan {
 }
 
 impl Slabs {
-    /// Returns true if the `len` bytes of tenant `t` from `place` on lie inside one live object. Returns false if `len` is 0.
+    /// Returns true if the `len` bytes of tenant `t` that begin at `place` lie inside one live object. Returns false if `len` is
+    /// 0.
     pub fn object_at(&self, space: &Space, buddy: &Buddy, t: u8, place: u32, len: u32) -> bool
         requires tenant { t < length space.now.slots }
         requires agree { Agree space.now buddy.now self.now }
@@ -72,8 +73,8 @@ impl Slabs {
             .is_some()
     }
 
-    /// Returns the live object that contains the `len` bytes from `place` on. Returns `None` if no live object contains them all,
-    /// or if `len` is 0. The caller has already looked up the taken block around `place`, as for [`Slabs::object_in`].
+    /// Returns the live object that contains the `len` bytes that begin at `place`. Returns `None` if no live object contains
+    /// them all, or if `len` is 0. The caller has already looked up the taken block around `place`, as for [`Slabs::object_in`].
     #[inline(always)]
     pub fn object_around(
         &self,
@@ -121,8 +122,8 @@ impl Slabs {
         })
     }
 
-    /// Returns the number of the cache that `slab` of tenant `t` belongs to, or `None` if no slab begins at this machine frame.
-    /// Only the contract uses `space` and `t`.
+    /// Returns the number of the cache that `slab` of tenant `t` belongs to, or `None` if no slab begins at the machine frame of
+    /// `slab`. Only the contract uses `space` and `t`.
     fn slab_at(&self, space: &Space, t: u8, slab: Slab) -> Option<u32>
         requires steady { (b : buddies.Content) × IsSteady space.now b self.now t }
         requires machine_frame { machine_frame_of self.now.top space.now.slots t slab.first ≡ Some slab.machine_frame }

@@ -16,8 +16,8 @@ use buddy_core::{Buddy, ReservedBlock};
 use space_core::Space;
 
 impl Slabs {
-    /// Takes a page block of order `k` for tenant `t` and returns its first frame. If a block is found only after all empty slabs
-    /// of the tenant are freed, it frees them first.
+    /// Takes a page block of order `k` for tenant `t` and returns its first frame. If no free block is large enough, but one
+    /// would be if all empty slabs of the tenant were freed, frees them first.
     ///
     /// Returns `None` and changes nothing if no block would be found even then.
     // Never inlined: its result fits into registers, and a search inside `Kernel::run` would cost each event.
@@ -102,7 +102,8 @@ impl Slabs {
         buddy.reserve_block(t, k)
     }
 
-    /// Does the same as [`Slabs::reserve`], for a request that is rarely served this late.
+    /// Does the same as [`Slabs::reserve`], for a request whose block is found only after the empty slabs were freed. Such
+    /// requests are rare.
     // Never inlined: one copy of the search is enough in a caller.
     #[cold]
     #[inline(never)]

@@ -28,7 +28,7 @@ use model_core::refusals::TakeRefusal;
 use slab_tables::Kind;
 use space_core::Space;
 
-/// Reads the eight bytes from index `at` on as one little-endian number.
+/// Reads the eight bytes that begin at index `at` as one little-endian number.
 #[inline(always)]
 fn eight_at(bytes: &[u8], at: usize) -> u64
     requires { at + 8 ≤ length bytes.now }
@@ -102,8 +102,8 @@ impl Slabs {
     /// Takes an object of cache `c` of tenant `t` and returns its first place.
     ///
     /// The object is the first free one of the first partial slab. If no slab is partial, it is the first object of the first
-    /// empty slab. If no slab is empty either, it is the first object of a new slab. If a block for the new slab is found only
-    /// after all empty slabs of the tenant are freed, they are freed first.
+    /// empty slab. If no slab is empty either, it is the first object of a new slab. If no free block is large enough for the new
+    /// slab, but one would be if all empty slabs of the tenant were freed, they are freed first.
     ///
     /// Refuses with `NoCache` if the tenant has no such cache, then with `NoFrames` if a new slab is needed and no block would be
     /// found for it even then. A refused call changes nothing.

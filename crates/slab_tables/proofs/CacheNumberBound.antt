@@ -25,7 +25,7 @@ pub below_standing : (cs : List (Option Cache)) (bs : List ℕ) (i : ℕ) (c : C
     → (o : Option Cache) → get_or bs (i / MOST_CACHES) 0 ≤ i % MOST_CACHES → o ≡ None
 below_standing cs bs i c is a o le = absurd (let f : ◌≡◌ {A = Option Cache} None (Some c) = sym (a.none i le) ∙ is in cc)
 
--- Let b be at most `MOST_CACHES`. If tenant t has no cache with number b or above, `AreBelow` holds after the bound of t is
+-- If b is at most `MOST_CACHES`, and tenant t has no cache with number b or above, `AreBelow` holds after the bound of t is
 -- replaced by b.
 pub below_number : (cs : List (Option Cache)) (bs : List ℕ) (t b : ℕ) → t < length bs → b ≤ MOST_CACHES
     → ((c : ℕ) → b ≤ c → c < MOST_CACHES → cache_in cs (index_of_cache t c) ≡ None) → AreBelow cs bs → AreBelow cs (set bs t b)
@@ -55,7 +55,7 @@ below_used cs bs t c o lt below less a =
     below_cache cs bs (index_of_cache t c) o (omega (arith, lt, less, a.tenants))
     (λ le. let here = ap (λ j. get_or bs j 0) (own_number t c less) in absurd (omega (arith, le, here, below, less))) a
 
--- Let b be above c and at most `MOST_CACHES`. `AreBelow` holds after the entry of cache c is replaced and its tenant's bound is
+-- If b is above c and at most `MOST_CACHES`, `AreBelow` holds after the entry of cache c is replaced and its tenant's bound is
 -- raised to b.
 pub below_more : (cs : List (Option Cache)) (bs : List ℕ) (t c b : ℕ) (o : Option Cache) → t < length bs → c < b → get_or bs t 0 ≤ b → b ≤ MOST_CACHES
     → AreBelow cs bs → AreBelow (set cs (index_of_cache t c) o) (set bs t b)

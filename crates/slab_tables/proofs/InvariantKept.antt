@@ -27,8 +27,9 @@ with_machine_frame s machine_frame p k live = record {
   live = live;
 }
 
--- Let the place and the state at one machine frame be replaced by p and k. The invariant still holds if `InOrder` holds for p and
--- k, and if each total changes by as much as the machine frame's part of that total.
+-- Suppose that the place and the state at one machine frame are replaced by p and k. The invariant still holds if `InOrder` holds
+-- for p and k, and if each total changes by as much as the machine frame's part of that total. A total is the number of live
+-- objects of a cache.
 pub slabs_machine_frame : (s : Content) (machine_frame : ℕ) (p : Option (ℕ × ℕ)) (k : Kept) (live : List ℕ) → IsSlabs s → machine_frame < length s.lists.places → InOrder s p k
     → length live ≡ length s.live
     → ((n : ℕ) → n < length s.live → get_or live n 0 + part n (place_at s.lists.places machine_frame) (kept_at s.kept machine_frame) ≡ get_or s.live n 0 + part n p k)

@@ -52,8 +52,8 @@ layout_numbers c = numbers_of c.layout
 abbrev pub kind_of : ℕ → ℕ → ℕ
 kind_of count live = if live == count then 0 else (if live == 0 then 2 else 1)
 
--- The number of a kind. It is also the position of the kind's list in the three lists of a cache, so the list of the full slabs is
--- loose.
+-- The number of a kind. It is also the position of the kind's list in the three lists of a cache. The first of three lists is
+-- loose, that is, not linked in the order of its keys, so this is the list of the full slabs.
 abbrev pub kind_number : Kind → ℕ
 kind_number Kind.Full = 0
 kind_number Kind.Partial = 1
@@ -63,8 +63,8 @@ kind_number Kind.Empty = 2
 abbrev pub head_of : ℕ → ℕ → ℕ → ℕ
 head_of t c kind = 3 * index_of_cache t c + kind
 
--- A slab with the stored state `kept` has a colour of its cache's layout, and no more live objects than a slab of the cache has
--- objects. List `head` is for slabs of the kind that this number of live objects determines.
+-- A slab with the stored state `kept` has a colour of the cache's layout. Its number of live objects is at most the number of
+-- objects in a slab of the cache, and list `head` is for slabs of the kind that this number of live objects determines.
 pub record IsListed (kept : Kept) (cache : Cache) (head : ℕ) : Type 0 where
   pub kind : in_three head ≡ kind_of (layout_numbers cache).count kept.live
   pub few : kept.live ≤ (layout_numbers cache).count

@@ -13,7 +13,7 @@ pub struct Cache {
     pub made: u32,
 }
 
-/// The state of a slab, except for its first frame and the list of its cache that it is in. `SlabLists` stores these two.
+/// The state of a slab, except for its first frame and the number of the list that contains it. `SlabLists` stores these two.
 #[derive(Clone, Copy, Debug)]
 pub struct Kept {
     /// The offset of the slab's first object, in bytes.

@@ -10,8 +10,8 @@ use std::alloc::{AllocError, Global};
 const GROUP_ORDER: u8 = 5;
 
 /// Hints about where slabs begin. A list that is kept in groups has one bit for each group of its tenant's frames. The bit is 1
-/// if a slab of the list begins in the group. For each slot of a tenant there is also a superblock: the one in which a slab of
-/// the slot was last made, or to which the slot's slabs last moved.
+/// if a slab of the list begins in the group. For each slot of a tenant, the hints also have a superblock: the one in which a
+/// slab of the slot was last made, or to which the slot's slabs last moved.
 #[derive(Debug, Drop)]
 pub(crate) struct Groups {
     /// A superblock has `2^order` frames.

@@ -12,9 +12,10 @@ use model_core::limits::MOST_CACHES;
 /// A list with all slabs of one kind in a cache. The list of the full slabs has the number `3 * (32 * tenant + cache)`. The list
 /// of the partial slabs has the next number, and the list of the empty slabs has the number after that.
 ///
-/// So a cache has one of the threes of lists of [`klist_core`], and the list of its full slabs is loose: it is not linked in the
-/// order of its keys. That is enough for the full slabs, because no call needs the first full slab, and it is fast, because slabs
-/// fill up often.
+/// The lists of [`klist_core`] come in threes, and the first of each three is loose: it is not linked in the order of its keys.
+/// Each cache has one such three, so the list of its full slabs is loose. That is enough for the full slabs, because no call
+/// needs the first full slab. It also saves time, since slabs fill up often, and a slab is added to a loose list without a search
+/// for its position.
 #[derive(Clone, Copy, Debug, PartialEq, Eq)]
 pub struct ListId {
     pub number: u32,

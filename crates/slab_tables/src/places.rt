@@ -34,7 +34,8 @@ pub(crate) fn machine_frame_at(order: u8, superblock: u16, i: u32) -> u32
 /// In a list with fewer slabs than this, a slab's position is found by a walk, without a search for a nearby slab.
 const SHORT: u32 = 8;
 
-/// A list that grows to this number of slabs is kept in groups. For fewer slabs a walk costs no more than a lookup in the groups.
+/// A list that grows to this number of slabs is kept in groups: for each group of frames, one bit says whether a slab of the list
+/// begins in the group. For fewer slabs a walk costs no more than a lookup in the groups.
 const LONG: u32 = 128;
 
 /// A list that shrinks below this number of slabs is no longer kept in groups. The number is well below `LONG`, because a list
@@ -260,7 +261,7 @@ impl SlabLists {
     ///
     /// The search first tries every `step`-th machine frame below `machine_frame` in the same group. It tries at most a quarter
     /// as many machine frames as the list has slabs, since a walk over a short list costs less. Then, if the list is kept in
-    /// groups, it searches the last group before the group of `key` that has a slab of the list.
+    /// groups, it searches the last group that comes before the group of `key` and has a slab of the list.
     fn near(&self, head: u32, machine_frame: u32, key: u32, step: u32) -> Option<u32>
         requires head { head < self.now.heads }
         requires machine_frame { machine_frame < length self.now.places }
@@ -278,8 +279,8 @@ impl SlabLists {
         self.near_in_groups(head, key, step)
     }
 
-    /// Searches the last group before the group of `key` that has a slab of the list, from the end of that group down. Returns
-    /// the machine frame of the first slab of the list that the search finds, or `None` if it finds none.
+    /// Searches the last group that comes before the group of `key` and has a slab of the list. The search goes down from the end
+    /// of that group. Returns the machine frame of the first slab of the list that the search finds, or `None` if it finds none.
     #[inline(never)]
     fn near_in_groups(&self, head: u32, key: u32, step: u32) -> Option<u32>
         requires head { head < self.now.heads }
@@ -339,8 +340,8 @@ fn keep(lists: &Lists, groups: &mut Groups, head: u32)
     }
 }
 
-/// Returns the first of `above - step`, `above - 2 * step` and so on that is in the list. It tries at most `most` of them, and
-/// none that is more than `reach` below `above`. Returns `None` if it finds none.
+/// Returns the first of the machine frames `above - step`, `above - 2 * step` and so on that is in the list. Tries at most `most`
+/// of these machine frames, and none that is more than `reach` below `above`. Returns `None` if none of them is in the list.
 fn near_below(lists: &Lists, head: u32, above: u32, step: u32, reach: u32, most: u32) -> Option<u32>
     requires head { head < lists.now.heads }
     requires above { above ≤ length lists.now.places }

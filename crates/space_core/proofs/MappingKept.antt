@@ -89,8 +89,8 @@ counted-set {s} facts t u m x o tenant slot within was is others other k lt =
           ∙ omega (arith, owners, facts.counted k lt, ap one_if (others k differ), ap one_if (other k differ))
     ]
 
--- Slot u of tenant t gets entry x, and superblock m gets owner o. If x and o agree, the slot had no superblock other than m, and
--- m was in no other slot, then slots and owners still agree.
+-- Slot u of tenant t gets entry x, and superblock m gets owner o. After that, slots and owners still agree if three things
+-- hold: x and o agree, the slot had no superblock other than m, and m was in no other slot.
 pub agree-set : {s : Content} → IsSpace s → (t u m : ℕ) (x : Option ℕ) (o : Option Owner) → t < length s.slots → u < length s.owners → m < length s.owners
     → ((n : ℕ) → x ≡ Some n → (n ≡ m) × (o ≡ Some (owned_by t u))) → ((k v : ℕ) → o ≡ Some (owned_by k v) → (k ≡ t) × (v ≡ u) × (x ≡ Some m))
     → ((k v : ℕ) → superblock_at s.slots k v ≡ Some m → (k ≡ t) × (v ≡ u)) → ((n : ℕ) → superblock_at s.slots t u ≡ Some n → n ≡ m)

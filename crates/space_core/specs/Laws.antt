@@ -44,7 +44,7 @@ pub record SpareBytes (s : Content) : Type 0 where
   pub take_back : (t u m : ℕ) → SpareStays s (with_take_back s t u m)
   pub move : (t u from to : ℕ) → to < length s.owners → SpareStays s (with_move s t u from to)
 
--- `bytes` are the `len` bytes of tenant t from `place` on
+-- `bytes` are the `len` bytes of tenant t that begin at `place`
 pub record AreBytesAt (s : Content) (t place len : ℕ) (bytes : List ℕ) : Type 0 where
   pub count : length bytes ≡ len
   pub each : (i : ℕ) → i < len → byte_at s t (place + i) ≡ Some (slice_index bytes i)

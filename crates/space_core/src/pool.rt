@@ -34,8 +34,8 @@ impl Space {
         Ok((u, m))
     }
 
-    /// Takes back a slot of tenant `t` and returns its superblock. The superblock keeps its bytes and is
-    /// marked, so it is scrubbed before it is granted again.
+    /// Takes back a slot of tenant `t` and returns its superblock. The superblock keeps its bytes and is marked: after its next
+    /// grant it reads as zero.
     ///
     /// Returns `NoSlot` and changes nothing if the tenant does not hold the slot.
     pub fn take_back(&mut self, t: u8, slot: u32) -> Result<u16, NoSlot>
@@ -53,9 +53,9 @@ impl Space {
         Ok(m)
     }
 
-    /// Moves a slot of tenant `t` to the least superblock without an owner, and returns the old and the
-    /// new superblock. All bytes are copied, so the tenant reads what it read before. The old superblock
-    /// keeps its bytes and is marked, so it is scrubbed before it is granted again.
+    /// Moves a slot of tenant `t` to the least superblock without an owner, and returns the old and the new superblock. All bytes
+    /// are copied, so the tenant reads what it read before. The old superblock keeps its bytes and is marked: after its next grant
+    /// it reads as zero.
     ///
     /// Returns `NoSlot` if the tenant does not hold the slot, or else `PoolEmpty` if every superblock has an owner. In both cases
     /// nothing changes.
@@ -114,7 +114,8 @@ impl Space {
         self.owners.as_slice()
     }
 
-    /// Returns true if superblock `m` is marked, so that it is scrubbed before it is granted again.
+    /// Returns true if superblock `m` is marked: it lost its owner and keeps that owner's bytes, but after its next grant it reads
+    /// as zero.
     pub fn is_marked(&self, m: u16) -> bool
         requires { m < length self.now.owners }
         ensures { result ≡ mark_at self.now.marks m }

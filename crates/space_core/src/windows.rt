@@ -10,8 +10,8 @@ use crate::Space;
 use crate::banks::{set_byte_at, write_out};
 
 impl Space {
-    /// Borrows the `len` bytes of tenant `t` from `place` on. Returns `None` if `len` is 0 or the range is
-    /// not inside one slot that the tenant holds.
+    /// Borrows the `len` bytes of tenant `t` that begin at `place`. Returns `None` if `len` is 0 or the range is not inside one
+    /// slot that the tenant holds.
     pub fn window(&self, t: u8, place: u32, len: u32) -> Option<&[u8]>
         requires { t < length self.now.slots }
         ensures value { option_map (λ bytes. bytes.now) result ≡ window_of self.now t place len }
@@ -25,8 +25,8 @@ impl Space {
         Some(part(self.bytes(usize::from(m)), at as usize, len as usize))
     }
 
-    /// Borrows the `len` bytes of tenant `t` from `place` on for writing. The range must not be empty, and must lie in one slot
-    /// that the tenant holds. When the borrow ends, the range has the written bytes, and the rest of RAM is unchanged.
+    /// Borrows for writing the `len` bytes of tenant `t` that begin at `place`. The range must not be empty, and must lie in one
+    /// slot that the tenant holds. When the borrow ends, the range has the written bytes, and the rest of RAM is unchanged.
     pub fn window_mut(&mut self, t: u8, place: u32, len: u32) -> &mut [u8]
         requires tenant { t < length self.old.slots }
         requires in_reach { IsSome (home_of self.old t place len) }
@@ -53,8 +53,8 @@ impl Space {
         self.part_mut(usize::from(m), at as usize, len as usize)
     }
 
-    /// Sets the `len` bytes of tenant `t` from `place` on to zero. The range must not be empty, and must lie in one slot that the
-    /// tenant holds.
+    /// Sets the `len` bytes of tenant `t` that begin at `place` to zero. The range must not be empty, and must lie in one slot
+    /// that the tenant holds.
     pub fn zero(&mut self, t: u8, place: u32, len: u32)
         requires tenant { t < length self.old.slots }
         requires in_reach { IsSome (home_of self.old t place len) }
@@ -156,7 +156,7 @@ impl Space {
         }
     }
 
-    /// Borrows the `len` bytes of superblock `m` from offset `from` on for writing.
+    /// Borrows for writing the `len` bytes of superblock `m` that begin at offset `from`.
     fn part_mut(&mut self, m: usize, from: usize, len: usize) -> &mut [u8]
         requires in_bounds { m < length self.old.owners }
         requires owned { owner_at self.old.owners m ≢ None }
@@ -171,7 +171,7 @@ impl Space {
     }
 }
 
-/// Returns the `len` bytes of `bytes` from index `from` on.
+/// Returns the `len` bytes of `bytes` that begin at index `from`.
 fn part(bytes: &[u8], from: usize, len: usize) -> &[u8]
     requires { from + len ≤ length bytes.now }
     ensures value { result.now ≡ slice_range bytes.now from (from + len) }

@@ -48,8 +48,8 @@ fails : (test : Bool) → ¬ (test ≡ true) → not test ≡ true
 fails true none = absurd (none refl)
 fails false none = refl
 
--- Let no byte before index n pass the test, and let the byte at n pass it unless n is the end. Then `position` returns n, or None
--- if n is the end.
+-- Suppose that no byte before index n passes the test, and that the byte at n passes it unless n is the end. Then `position`
+-- returns n, or None if n is the end.
 first_at : (p : ℕ → Bool) (bytes : List ℕ) (n : ℕ) → n ≤ length bytes → ((k : ℕ) → k < n → ¬ (p (get_or bytes k 0) ≡ true))
     → (n < length bytes → p (get_or bytes n 0) ≡ true) → position p bytes ≡ (if nat_lt n (length bytes) then Some n else None)
 first_at p bytes n within before at =

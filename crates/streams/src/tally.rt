@@ -15,7 +15,7 @@ pub struct Tally {
     pub written: u128,
 }
 
-/// The failure of the feed or of the drain, with the counts up to it.
+/// The failure of the feed or of the drain, with the counts up to the failure.
 #[derive(Clone, Copy, Debug, PartialEq, Eq, Drop, Error)]
 pub enum ReplayError {
     /// The feed failed. All lines that ended in LF were run, and all their replies were pushed. An unfinished line was not run.

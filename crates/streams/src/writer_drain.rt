@@ -66,7 +66,7 @@ impl<W: Write> WriterDrain<W> {
     pub fn flush(&mut self) -> Result<(), Stopped>
         requires { ⟦<WriterDrain<W> as Drain>⟧.has_failed self.old ≡ false }
         ensures bytes { Keeps (⟦<WriterDrain<W> as Drain>⟧.contents self.old) (⟦<WriterDrain<W> as Drain>⟧.contents self.new) }
-        // If it succeeds, the writer has all bytes that the drain took.
+        // If the flush succeeds, the writer has all bytes that the drain took.
         ensures written { OnOk result (Keeps (⟦<WriterDrain<W> as Drain>⟧.contents self.old) (W.contents self.new.writer)) }
         ensures empty { OnOk result (⟦<WriterDrain<W> as Drain>⟧.held_back self.new ≡ []) }
         ensures flushed { OnOk result (self.new.unsent ≡ false) }
@@ -100,8 +100,8 @@ impl<W: Write> WriterDrain<W> {
         self.send_failed
     }
 
-    /// Writes the buffered bytes to free the buffer, and then takes a prefix of `bytes`, which did not fit. Fails at once if a
-    /// send has failed.
+    /// Takes a prefix of `bytes`, which did not fit into the buffer. First writes the buffered bytes, so that the buffer is
+    /// empty. Fails at once if a send has failed.
     #[cold]
     #[inline(never)]
     fn push_beyond(&mut self, bytes: &[u8]) -> Result<usize, Stopped>

@@ -171,8 +171,8 @@ first_word line bytes word after blanks size fits each letter is some size_fits 
     ∙ words_of-first bytes size size_some size_fits letters stops
     ∙ (λ i. sym word_is i ∷ words_of (sym after_is i))
 
--- if one more word is found and one fewer is still to be found, the found words and those still to be found are together
--- unchanged
+-- If the first of the words still to be found is moved to the end of the found words, the list of the found words, followed by
+-- those still to be found, stays the same.
 pub one_more : {X Y : Type 0} (f : X → Y) (old new : List X) (x : X) (rest more : List Y) (n k : ℕ)
     → new ≡ old ++ x ∷ [] → rest ≡ f x ∷ more → n ≡ suc k → map f new ++ take k more ≡ map f old ++ take n rest
 one_more f old new x rest more n k new_is rest_is n_is =

@@ -65,7 +65,7 @@ pub data CaseOfWords : ℕ → List (List ℕ) → Result (Option Event) LineFau
       → AllMake row.forms row.makes arguments command
       → CaseOfWords 8 (first ∷ word ∷ arguments) (Ok (Some (event_by actor command)))
 
--- The bytes are a line without the carriage return that may end it. The line is in the case with this number and has this
+-- The bytes are a line without the carriage return that may be at its end. The line is in the case with this number and has this
 -- meaning.
 pub data CaseOfBytes : ℕ → List ℕ → Result (Option Event) LineFault → Type 0 where
   -- 1. the line has more than 255 bytes: the fault is `Long`, even if the line is a comment

@@ -9,8 +9,8 @@ abbrev pub top_text : Option ℕ → List ℕ
 top_text None = codes "none"
 top_text (Some order) = decimal order
 
--- the line about the frames: the numbers of all, taken and free frames, the greatest order of a free block, and `split` of the
--- report
+-- the line about the frames: the numbers of all, taken and free frames, the greatest order of a free block, and the report's
+-- `split`, the share of the free frames that are outside the largest free block
 abbrev pub frames_text : List ℕ → Report → List ℕ
 frames_text front report =
     front ++ codes "frames " ++ decimal report.frames ++ codes " live " ++ decimal report.live ++ codes " free "
@@ -22,7 +22,7 @@ abbrev pub order_text : List ℕ → ℕ → OrderRow → List ℕ
 order_text front order row =
     front ++ codes "order " ++ decimal order ++ codes " free " ++ decimal row.free ++ codes " taken " ++ decimal row.taken
 
--- a line for each order, from `order` on
+-- a line for each row; the first row is about order `order`, the next about the order above it, and so on
 abbrev pub order_texts : List ℕ → ℕ → List OrderRow → List (List ℕ)
 order_texts front order [] = []
 order_texts front order (row ∷ rows) = order_text front order row ∷ order_texts front (order + 1) rows

@@ -110,7 +110,7 @@ pub fn free_of(arguments: &[&[u8]]) -> Result<Command, LineFault>
     Ok(Command::Free { frame })
 }
 
-/// Reads `read PLACE LEN`, which reads `LEN` bytes from a place on.
+/// Reads `read PLACE LEN`, which reads the `LEN` bytes that begin at a place.
 pub fn read_of(arguments: &[&[u8]]) -> Result<Command, LineFault>
     ensures { result ≡ command_by read_row (map (λ word. word.now) arguments.now) }
 {
@@ -122,7 +122,7 @@ pub fn read_of(arguments: &[&[u8]]) -> Result<Command, LineFault>
     Ok(Command::Read { place, len })
 }
 
-/// Reads `write PLACE HEX`, which writes bytes from a place on.
+/// Reads `write PLACE HEX`, which writes bytes to the range that begins at a place.
 pub fn write_of(arguments: &[&[u8]]) -> Result<Command, LineFault>
     ensures { result ≡ command_by write_row (map (λ word. word.now) arguments.now) }
 {

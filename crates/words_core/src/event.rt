@@ -40,12 +40,12 @@ pub enum Command {
     Free {
         frame: u32,
     },
-    /// `T read PLACE LEN`: reads `len` bytes from the tenant's place `place` on.
+    /// `T read PLACE LEN`: reads the `len` bytes that begin at the tenant's place `place`.
     Read {
         place: u32,
         len: u32,
     },
-    /// `T write PLACE HEX`: writes 1 to 64 bytes from the tenant's place `place` on.
+    /// `T write PLACE HEX`: writes 1 to 64 bytes to the range that begins at the tenant's place `place`.
     Write {
         place: u32,
         bytes: ArrayVec<u8, MOST_BYTES>,

@@ -89,8 +89,8 @@ pub enum Body {
 /// Why a command was refused. A reply has both the number and the name of the refusal.
 #[derive(Clone, Copy, Debug, PartialEq, Eq)]
 pub enum Refusal {
-    /// No free block of the tenant is large enough for the page block, or for the new slab that an object needs, even after empty
-    /// slabs are freed.
+    /// No free block of the tenant is large enough for the page block, or for the new slab that an object needs. Even if all
+    /// empty slabs of the tenant were freed, none would be.
     NoFrames = 1,
     /// The order is above the order of a superblock.
     BadOrder,
@@ -122,7 +122,7 @@ pub enum Refusal {
     SlotBusy,
 }
 
-/// All refusals in the order of their numbers, from 1 on.
+/// All refusals, in the order of their numbers. The first has number 1.
 pub const REFUSALS: [Refusal; 15] = [
     Refusal::NoFrames,
     Refusal::BadOrder,

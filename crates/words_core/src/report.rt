@@ -31,7 +31,7 @@ pub struct Report {
     /// The share of the free frames that are outside the largest free block, in thousandths, rounded up. If several free blocks
     /// have the greatest order, only one of them counts as the largest. The share is 0 if there is no free block.
     pub split: u32,
-    /// The numbers of free and taken blocks of each order, from order 0 on.
+    /// The numbers of free and taken blocks of each order, beginning with order 0.
     pub orders: ArrayVec<OrderRow, ORDERS>,
     /// The numbers of slabs and live objects of each cache, in ascending order of cache numbers.
     pub caches: ArrayVec<CacheRow, CACHES>,

@@ -65,7 +65,7 @@ impl Work {
     }
 }
 
-/// Returns the works of the workload with this name, or no works if the name is unknown. Fails if memory runs out.
+/// Returns each [`Work`] of the workload with this name, or an empty vector if the name is unknown. Fails if memory runs out.
 pub fn works_of(alloc: Global, name: &str) -> Result<Vec<Work>, AllocError> {
     let mut works = Vec::new(alloc);
     let loads = [
@@ -111,7 +111,7 @@ pub fn works_of(alloc: Global, name: &str) -> Result<Vec<Work>, AllocError> {
     Ok(works)
 }
 
-/// Does a work on traces that are made from this seed, and adds all results to the digest.
+/// Does a [`Work`] on traces that are made from this seed, and adds all results to the digest.
 pub fn run(alloc: Global, work: &Work, seed: u64, digest: &mut Digest) -> Result<(), AllocError> {
     for trace in 0..work.traces {
         let own_seed = seed.wrapping_mul(1000).wrapping_add(u64::from(trace));
@@ -140,8 +140,8 @@ fn booted(alloc: Global, config: Config) -> Result<Kernel, AllocError> {
     Kernel::boot(alloc, config).map_err(|_| AllocError)
 }
 
-/// Replays the trace of a reader into a writer, for one tenant or for all. Returns a number that depends on the counts, the error
-/// and the success of the flush.
+/// Replays the trace that a reader gives, and writes the replies to a writer: those to one tenant, or all. Returns a number that
+/// depends on the counts, the error and the success of the flush.
 fn replay_between<R: Read + Drop, W: Write + Drop, N: Notes>(
     alloc: Global,
     config: Config,
@@ -182,7 +182,7 @@ fn replay_between<R: Read + Drop, W: Write + Drop, N: Notes>(
     )
 }
 
-/// Writes a tenant's own list of the trace of a reader. Returns true if nothing failed.
+/// Reads a trace from a reader, and writes a tenant's own list of this trace to a writer. Returns true if nothing failed.
 fn keep_between<R: Read + Drop, W: Write + Drop>(
     alloc: Global,
     config: Config,

@@ -67,7 +67,7 @@ fn run_words(rt: &(impl Env + Print + AllocGlobal)) -> io::Result<bool> {
     Ok(is_known)
 }
 
-/// Does the works of a workload, and prints their digest.
+/// Does each `Work` of a workload, and prints one digest of all results.
 fn print_digest(rt: &(impl Print + AllocGlobal), name: &str, seed: u64, part: u32) -> io::Result<()>
     requires { 0 < part }
 {

@@ -263,8 +263,8 @@ impl Maker {
         Ok(())
     }
 
-    /// Returns a place in a random block or object of the tenant, and how many bytes a line may use from that place on, at most
-    /// 64. If no block or object is chosen, returns place 0 and 64 bytes.
+    /// Returns a place in a random block or object of the tenant, and how many bytes a line may read or write there, at most 64.
+    /// If no block or object is chosen, returns place 0 and 64 bytes.
     fn some_room(&mut self, t: u32) -> (u32, u32) {
         let draw = self.numbers.next();
         let Some(tenant) = self.tenants.get(t as usize) else {

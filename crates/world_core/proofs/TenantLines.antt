@@ -101,7 +101,8 @@ report_fronted front report =
 alone : List ℕ → List (List ℕ)
 alone row = row ∷ []
 
--- each line of a body with a front is the front, followed by the body's line with the empty front
+-- A front is the text of the addressee, with which each line of a reply begins. Each line of a body with a front is the front,
+-- followed by the line that the body has with the empty front.
 fronted : (front : List ℕ) (body : Body) → body_texts front body ≡ map (λ row. front ++ row) (body_texts [] body)
 unfolding alone
 fronted front (Granted tenant slot superblock) =
@@ -190,8 +191,8 @@ rows_for t (Tenant named) body small small' =
 texts_of_reply : (reply : Reply) → AreTexts (body_texts (addressee_text reply.addressee) reply.body)
 texts_of_reply reply = body_text _ reply.body (addressee_is_text reply.addressee)
 
--- If a reply's text is followed by a rest, tenant t's lines in both together are the lines of the reply, if it is addressed to t,
--- and then t's lines in the rest.
+-- Suppose that a reply's text is followed by `rest`. Tenant t's lines in the whole are then the lines of the reply, if it is
+-- addressed to t, followed by t's lines in `rest`.
 reply_lines : (t : ℕ) (reply : Reply) (rest : List ℕ) → t < 2 ^ 64 → IsSmall reply.addressee
     → lines_for t (text_of reply ++ rest) ≡ texts_for t (if_for t reply.addressee reply.body) ++ lines_for t rest
 reply_lines t reply rest small small' =
@@ -264,7 +265,8 @@ abbrev pub Tell : ℕ → ℕ → ℕ → List (List ℕ) → Type 0
 Tell limit order t lines = (w : World) → length w.machines ≤ 2 ^ 64
     → lines_for t (shown_lines None limit order lines w) ≡ texts_for t (replies_to t (history limit order w (events_of lines)))
 
--- if `Tell` is true of some lines, tenant t's lines of output are the texts of its replies also if one more line runs before them
+-- if `Tell` is true of some lines, and one more line runs before them, tenant t's lines of output are still the texts of its
+-- replies
 reading_tells : (limit order t : ℕ) (reading : Result (Option Event) LineFault) (lines : List (List ℕ)) (w : World) → t < 2 ^ 64
     → length w.machines ≤ 2 ^ 64 → Tell limit order t lines
     → lines_for t (shown_reading None limit order reading w ++ shown_lines None limit order lines (world_after limit order w (event_in reading)))

@@ -25,7 +25,8 @@ alone = codes "admin grant 0\n0 alloc 0\n"
 abbrev among_others : List ℕ
 among_others = codes "admin grant 1\n1 alloc 0\nadmin grant 0\n1 alloc 3\n0 alloc 0\n"
 
--- tenant 0 has the same own list in two runs: `alone` with 2 superblocks and 3 tenants, `among_others` with 3 and 4
+-- tenant 0 has the same own list in two runs: `alone` with 2 superblocks and 3 tenants, and `among_others` with 3 superblocks and
+-- 4 tenants
 equal_lists : HaveSameOwnList 32 3 2 3 3 4 0 (events_of (lines_of_trace alone)) (events_of (lines_of_trace among_others))
 unfolding computed_lines
 equal_lists = record { tenant = omega arith; tenant' = omega arith; own = refl }

@@ -70,8 +70,8 @@ line_feed = 10
 abbrev pub with_line_feeds : List (List ℕ) → List ℕ
 with_line_feeds lines = concat (map (λ line. line ++ line_feed ∷ []) lines)
 
--- The ended lines of a trace that begins with byte b, if `lines` are those of the rest. If the rest has no LF, b is in no ended
--- line.
+-- The ended lines (those that end in LF) of a trace that begins with byte b, which is not an LF. `lines` are the ended lines of
+-- the bytes after b. If these bytes have no LF, b is in no ended line.
 abbrev pub onto_ended : ℕ → List (List ℕ) → List (List ℕ)
 onto_ended b [] = []
 onto_ended b (line ∷ lines) = (b ∷ line) ∷ lines

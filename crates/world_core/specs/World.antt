@@ -81,8 +81,8 @@ reset_step t w (Some m) = record {
   };
 }
 
--- The slot gets the first superblock without an owner, and its former superblock no longer has an owner. The move is refused if
--- every superblock has an owner.
+-- The step of a move of a slot that tenant t holds. The slot gets the first superblock without an owner, and its former
+-- superblock no longer has an owner. The move is refused if every superblock has an owner.
 abbrev pub moved_to : ℕ → ℕ → World → Option ℕ → WorldStep
 moved_to t slot w None = answer Addressee.Admin (Body.Refused Refusal.PoolEmpty) w
 moved_to t slot w (Some superblock) = record {

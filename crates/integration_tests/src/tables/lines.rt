@@ -32,7 +32,7 @@ pub static ROWS: [Row; 7] = [
         trace: b"0 alloc 0\r\n0 alloc 0\r",
         output: b"0> refused 1 NoFrames\n0> refused 1 NoFrames\n",
     },
-    // Blanks around words do not matter, and a leading zero is a digit.
+    // Blanks around words do not matter, and numbers may have leading zeros.
     Row {
         trace: b"\t00  alloc\t 0000000000 \n",
         output: b"0> refused 1 NoFrames\n",

@@ -15,7 +15,7 @@ pub static ROWS: [Row; 10] = [
             0> order 0 free 0 taken 0\n0> order 1 free 0 taken 0\n0> order 2 free 0 taken 0\n\
             0> order 3 free 0 taken 0\n",
     },
-    // Blocks are split until no frame is free. Even then, an order above that of a superblock is refused as a bad order.
+    // Blocks are split until no frame is free. Even then, an order above the order of a superblock is refused with `BadOrder`.
     Row {
         trace: b"admin grant 0\n0 alloc 0\n0 alloc 1\n0 alloc 2\n0 alloc 0\n0 alloc 0\n\
             0 alloc 4\n",
