@@ -56,8 +56,8 @@ struct summary {
 
 /* What is kept for the first frame of a page block or a slab. For any other frame `taken` and `cache` are 0. */
 struct frame {
-    uint64_t record; /* of a slab of large objects: which are live */
-    uint16_t live;   /* objects of a slab */
+    uint64_t record; /* of a slab of large objects: a bit for each object, 1 if it is live */
+    uint16_t live;   /* the number of live objects of a slab */
     uint16_t colour; /* bytes of a slab before its first object */
     uint8_t taken;   /* the order of the block plus 1 */
     uint8_t cache;   /* the number of the slab's cache plus 1; 0 for a page block */
@@ -69,7 +69,7 @@ struct cache {
     uint32_t extent;  /* bytes of all chunks of a slab */
     uint32_t inverse; /* 2^32 / chunk, rounded up: a product with it replaces a division by chunk */
     uint32_t objects; /* of a slab */
-    uint32_t live;    /* live objects of all slabs: a cache with one must not be destroyed */
+    uint32_t live;    /* live objects of all slabs: a cache with a live object must not be destroyed */
     uint8_t order;    /* of a slab */
     bool is_small;
     struct summary partial, empty;
@@ -343,7 +343,7 @@ RARE partmem_status refuse(partmem_lent *lent, partmem_status why)
 
 /* ---- Page blocks --------------------------------------------------------------------------------------------------------- */
 
-/* Does an alloc that found no free block that is large enough. */
+/* Continues an alloc if no free block is large enough. */
 APART partmem_status alloc_after_reap(partmem_tenant who, uint32_t order, partmem_lent *block)
 {
     struct machine *machine = who.machine->held[0];

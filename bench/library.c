@@ -6,10 +6,10 @@
  *     library --order=ORDER --superblocks=SUPERBLOCKS --tenants=TENANTS   writes the replies to the lines of standard input
  *
  * HOW is `event` (partmem_event), `line` (partmem_line), `call` (the direct calls) or `malloc`. The calls are made in turn on a
- * machine that was just booted. Their arguments are prepared before, and replies are not read. With `malloc` each page block or
- * object becomes a malloc of as many bytes and a free, and lines that neither take nor give back memory are left out. This
- * measures the allocator that is linked or preloaded. After a malloc, and after a direct call that takes memory, the first byte
- * is stored.
+ * machine that was just booted. Their arguments are prepared before the first call, and replies are not read. With `malloc` each
+ * page block or object becomes a malloc of as many bytes and a free, and lines that neither take nor give back memory are left
+ * out. This measures the allocator that is linked or preloaded. After a malloc, and after a direct call that takes memory, the
+ * first byte is stored.
  * With `call-used` and `malloc-used` all bytes of a block or an object are stored when it is taken, and loaded and checked before
  * it is given back.
  *

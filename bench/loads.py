@@ -89,8 +89,8 @@ def scattered(draw, tenants):
 
 
 def transfers(draw, tenants):
-    """Reads or writes 1 to 64 bytes in live objects and blocks. Two of three reads and writes are of 1 byte or of 64,
-    or of the whole object if that has fewer bytes."""
+    """Reads or writes 1 to 64 bytes in live objects and blocks. In two of three reads and writes the length is 1 or 64, or the
+    size of the object if that is less than 64."""
     for tenant in draw.choices(tenants, k=BATCH):
         if len(tenant.objects) < 20:
             yield take(tenant, draw.randrange(len(SIZES)))

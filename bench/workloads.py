@@ -12,8 +12,8 @@ SEED = 1
 
 
 def workloads(checkout):
-    """Returns the rows of bench/workloads.txt. Each line is NAME CRATE WORD..; a last word <FILE is the standard input, and SEED
-    is replaced by a number."""
+    """Returns the rows of bench/workloads.txt. Each line is NAME CRATE WORD... If the last word is <FILE, that file is the
+    standard input. A word SEED is replaced by a number."""
     with open(os.path.join(checkout, 'bench/workloads.txt'), encoding='utf-8') as file:
         rows = [line.partition('#')[0].split() for line in file]
     return [(row[0], row[1], row[2:]) for row in rows if row]

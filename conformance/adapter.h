@@ -3,9 +3,9 @@
  *
  *     cc -O2 -o mine conformance/adapter.c mine.c && conformance/check --pages ./mine
  *
- * A superblock has 2^order frames of FRAME_BYTES bytes. Slot u of a tenant has the 2^order frames from u * 2^order on. Each byte
- * of a tenant has a number, its place: frame f has the FRAME_BYTES places from f * FRAME_BYTES on. All places are below 2^32. A
- * grant may choose any slot that the tenant does not hold.
+ * A superblock has 2^order frames of FRAME_BYTES bytes. Slot u of a tenant has 2^order frames, of which the first is frame
+ * u * 2^order. Each byte of a tenant has a number, its place: frame f has FRAME_BYTES places, of which the first is
+ * f * FRAME_BYTES. All places are below 2^32. A grant may choose any slot that the tenant does not hold.
  *
  * The tenant that is passed always exists. The length of a write is 1 to MOST_BYTES, and the length of a pattern is 1 to
  * MOST_PATTERN. All other numbers may be any 32-bit numbers. The refusals of a function are listed in the order in which it has

@@ -7,9 +7,9 @@
 //!
 //! `mine.rs` includes this file by `#[path = "conformance/adapter.rs"] mod adapter;`.
 //!
-//! A superblock has `2^order` frames of [`FRAME_BYTES`] bytes. Slot `u` of a tenant has the `2^order` frames from `u * 2^order`
-//! on. Each byte of a tenant has a number, its place: frame `f` has the `FRAME_BYTES` places from `f * FRAME_BYTES` on. All
-//! places are below 2^32. A grant may choose any slot that the tenant does not hold.
+//! A superblock has `2^order` frames of [`FRAME_BYTES`] bytes. Slot `u` of a tenant has `2^order` frames, of which the first is
+//! frame `u * 2^order`. Each byte of a tenant has a number, its place: frame `f` has `FRAME_BYTES` places, of which the first is
+//! `f * FRAME_BYTES`. All places are below 2^32. A grant may choose any slot that the tenant does not hold.
 //!
 //! The tenant that is passed always exists. A write has 1 to [`MOST_BYTES`] bytes, a pattern 1 to 16. All other numbers may be
 //! any 32-bit numbers. The refusals of a function are listed in the order in which it has to test them. A function that refuses
@@ -100,8 +100,8 @@ pub struct CacheRow {
     pub live: u32,
 }
 
-/// The figures of a report: for each order from 0 on, how many blocks are free and how many are taken; and the rows of the
-/// caches, in the order of the caches' numbers.
+/// The figures of a report: for each order, beginning with 0, how many blocks are free and how many are taken; and the rows of
+/// the caches, in the order of the caches' numbers.
 #[derive(Clone, Debug, Default)]
 pub struct Figures {
     pub orders: Vec<(u32, u32)>,

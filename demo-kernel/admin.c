@@ -1,5 +1,5 @@
-/* The administrator. In all worlds partition 0 gets and loses the same slots, at the same points of its own run. All else that
- * the administrator does may differ. */
+/* The administrator. A world is one run of the kernel. In all worlds partition 0 gets and loses the same slots, at the same
+ * points of its own run. All else that the administrator does may differ. */
 #include "kernel.h"
 
 /* What the words NAME=VALUE of the boot line say. */
@@ -95,8 +95,9 @@ static void hand_over(void)
     start_1();
 }
 
-/* Does what partition 0 waits for: grants it a superblock at meeting 1, takes slot 1 back at meeting 2, and grants it a
- * superblock again at meeting 3. In a noisy world meeting 1 lasts until partition 1 has filled its memory. */
+/* Does what partition 0 waits for. A meeting is a system call in which a partition waits for the administrator. Partition 0 is
+ * granted a superblock at meeting 1, loses slot 1 at meeting 2, and is granted a superblock again at meeting 3. In a noisy world
+ * meeting 1 lasts until partition 1 has filled its memory. */
 static void serve_meeting(void)
 {
     if (meeting_of(0) == 2) take_back(0, 1);

@@ -96,8 +96,8 @@ static uint64_t start_thread(unsigned t, uint64_t address, uint64_t stack, uint6
     return number;
 }
 
-/* Gives the turn to the next thread of the partition that does not wait, from the one after the current thread on. If there is
- * none, the partition has ended. */
+/* Gives the turn to a thread of the partition that does not wait. The search begins with the thread after the current one, and
+ * ends with the current one. If all threads wait, or there is none, the partition has ended. */
 static void choose_thread(unsigned t)
 {
     for (unsigned i = 1; i <= THREADS; i++) {
@@ -266,8 +266,8 @@ static void system_call(struct context *context, uint64_t begin)
     counts[count++].quiet = all - printing;
 }
 
-/* Prints a fault of a partition, with the place and not an address if it is at one of the partition's places (duty 6). The thread
- * continues at its handler, or ends if it has none. */
+/* Prints a fault of a partition. If the fault is at one of the partition's places, prints the place and not an address (duty 6).
+ * The thread continues at its handler, or ends if it has none. */
 static void fault(unsigned t, struct context *context)
 {
     const struct registers *registers = &context->registers;
@@ -280,7 +280,8 @@ static void fault(unsigned t, struct context *context)
     else end_thread(t);
 }
 
-/* Chooses the next partition that can run: from the current one on or, at the end of its turn, from the next one on. */
+/* Chooses the first partition that can run. The search begins with the current one, or with the next one if the turn of the
+ * current one has ended. */
 static void choose_partition(bool is_end_of_turn)
 {
     for (unsigned i = is_end_of_turn; i <= PARTITIONS; i++) {

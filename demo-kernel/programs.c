@@ -21,8 +21,8 @@ static uint64_t alloc(uint64_t order) { return call(CALL_ALLOC, order, 0, 0); }
 static void free_frame(uint64_t frame) { call(CALL_FREE, frame, 0, 0); }
 static volatile uint64_t *words_of(uint64_t frame) { return (volatile uint64_t *)(PLACES + frame * FRAME); }
 
-/* These load a byte, store a byte, run code, read the time stamp, and read a port. If one faults, the thread continues at
- * `in_vain`, which returns REFUSED. */
+/* These functions load a byte, store a byte, run code, read the time stamp, and read a port. If one of them faults, the thread
+ * continues at `in_vain`, which returns REFUSED. */
 uint64_t load_byte(uint64_t address);
 uint64_t store_byte(uint64_t address);
 uint64_t run_at(uint64_t address);
@@ -99,7 +99,7 @@ static uint64_t wrong_vectors(uint64_t seed)
     return wrong + ((state.words[3] >> 13 & 3) != (seed & 3));
 }
 
-/* Returns the selector that a segment register gets: one of the two that user mode may load, by a bit of the seed. */
+/* Returns the selector that a segment register gets: one of the two that user mode may load, chosen by a bit of the seed. */
 static uint32_t selector(uint64_t seed, int bit) { return seed >> bit & 1 ? 0x23 : 0x1b; }
 
 static void load_selectors(uint64_t seed)

@@ -12,7 +12,7 @@ static _Alignas(16) unsigned char tables[PARTMEM_TABLE_BYTES(ORDER, SUPERBLOCKS,
 static partmem_machine machine;
 static const partmem_tenant driver = {&machine, 0}, logger = {&machine, 1};
 
-/* Messages are objects of the logger. Each holds the place of the one before it, not its address, since a move changes
+/* Messages are objects of the logger. Each holds the place of the message before it, not the address, since a move changes
  * addresses. */
 struct message {
     uint32_t before;

@@ -19,10 +19,10 @@ struct unused {
 static int file;
 static char *places;
 static struct unused *unused[PAGE];
-static uint8_t power_in[PAGES]; /* by page: k of the pieces in it, or of the block that begins there */
+static uint8_t power_in[PAGES]; /* by page: the k of the pieces in this page, or of the block that begins there */
 
-/* Maps all places that the partition can name. How many these are is not known, and a larger mapping is refused. So it tries
- * smaller and smaller mappings until one is not refused. */
+/* Maps all places that the partition can name. The number of these places is not known, and a mapping of more places is refused.
+ * So this function tries smaller and smaller mappings until one is not refused. */
 static void start(void)
 {
     file = atoi(getenv("PARTMEM_FILE"));

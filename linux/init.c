@@ -1,6 +1,6 @@
-/* /init of the virtual machine that linux/run boots. In quiet and noisy worlds partition 0 does the same, and prints the results
- * of its calls and what it finds; linux/run compares these lines. In a noisy world partition 1 meanwhile allocates, frees and
- * stores at random, slots of both are moved, and partition 1 is reset. Perl runs in a world of its own, with its heap in a
+/* /init of the virtual machine that linux/run boots. Partition 0 does the same in quiet and in noisy worlds, and prints the
+ * results of its calls and what it finds. linux/run compares these lines. In a noisy world partition 1 meanwhile allocates, frees
+ * and stores at random, slots of both are moved, and partition 1 is reset. Perl runs in a world of its own, with its heap in a
  * partition whose slots are moved. The output goes to port 0xe9. */
 #define _GNU_SOURCE
 #include <errno.h>
@@ -31,7 +31,7 @@ enum { PERL_SUPERBLOCKS = 40, PERL_SLOTS = 36 }; /* at order 6 */
 
 struct block {
     uint32_t place, bytes;
-    uint64_t seed; /* of the numbers in its words */
+    uint64_t seed; /* the seed of the numbers in the block's words */
 };
 
 static int file; /* /dev/partmem: the administrator's file, or the partition's */
@@ -272,14 +272,14 @@ static void make_noise(uint64_t random)
     noise.moves += call(PARTMEM_IOC_MOVE, 0, noise.moves % SLOTS).status == 0;
     call(kinds[random % 3], 1, random >> 32 & 3);
     if (++noise.made % 25) return;
-    call(PARTMEM_IOC_RESET, 1, 0); /* then another client gets the number */
+    call(PARTMEM_IOC_RESET, 1, 0); /* then a new process gets the partition */
     end(noise.neighbour);
     start_neighbour();
     noise.resets++;
 }
 
 /* Grants partition 0 a superblock. In a noisy world partition 1 first gets all superblocks that are left, fills them and loses
- * them, so partition 0 gets one that was partition 1's. */
+ * them, so partition 0 gets a superblock that was partition 1's. */
 static void hand_over(bool is_noisy)
 {
     char byte = 0;

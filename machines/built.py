@@ -1,5 +1,5 @@
-"""Finds the programs and libraries that scripts use: the proved one if it is built, or else the unproved one of
-tools/unproved."""
+"""Finds the programs and libraries that scripts use. Of each, finds the proved one if it is built, or else the unproved one,
+which tools/unproved builds."""
 import os
 import sys
 
@@ -8,8 +8,9 @@ HOW = 'build it by `make unproved`, which proves nothing and takes two minutes, 
 
 
 def found(user, proved, unproved):
-    """Returns the path of the first file that exists of the list `proved` and then `unproved`, or None. All are named from the
-    top of the repository or of a release. If it returns the unproved one, it says so on standard error, as the script `user`."""
+    """Returns the path of the first file that exists: the files of the list `proved` are tried first, and then `unproved`.
+    Returns None if there is none. The names are relative to the top of the repository or of a release. If it returns the path of
+    `unproved`, it says so on standard error, as the script `user`."""
     for file in [*proved, unproved]:
         path = os.path.join(TOP, file)
         if os.path.isfile(path):

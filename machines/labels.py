@@ -11,10 +11,10 @@ LEFT, RIGHT, MARGIN = 72, 36, 16        # the space left and right of framemap's
 NAME_LINE = 18                          # the height of the line with a band's name
 BELOW, FREE_BELOW = 18, 40              # from the foot of a band down to the numbers of its lines, and to its end
 MARKS_BELOW, MARK_HEIGHT = 4, 9         # how far below the rows the marks of refusals are, and their height
-INDENT = 12                             # of a band's figures, which are right of the word above its axis
+INDENT = 12                             # the indent of a band's figures, which are right of the word above the band's axis
 BYTES_RIGHT = 22                        # where the numbers of bytes end
 MOST_NAME = 64                          # characters of a name; a longer one is cut
-MOST_TITLES, LEAST_WIDTH, LEAST_HEIGHT = 1500, 3, 3     # the most rectangles with a title, and the least size of one in pixels
+MOST_TITLES, LEAST_WIDTH, LEAST_HEIGHT = 1500, 3, 3     # the most rectangles with a title; their least size in pixels
 KINDS = {'page': 'page blocks', 'full': 'full slabs', 'partial': 'partial slabs', 'empty': 'empty slabs', 'free': 'free',
          'none': 'not held'}
 SHARES = {'one': 'up to a quarter', 'two': 'up to half', 'three': 'up to three quarters', '': 'more than three quarters'}

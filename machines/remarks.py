@@ -11,7 +11,8 @@ INTERVAL = re.compile(r'# times every (\d{1,12}(?:\.\d{1,9})?) seconds')
 
 
 class Clock:
-    """When the lines of a trace were run. The lines after a remark of the time ran at that time, or up to an interval later."""
+    """When the lines of a trace were run. A remark of the time is a comment `# time SECONDS`. The lines after it ran at that
+    time, or up to an interval later."""
 
     def __init__(self):
         self.lines, self.times, self.interval = [], [], None    # of each remark: its line and its seconds

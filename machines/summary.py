@@ -1,6 +1,6 @@
 """The summary that from-kmem and from-malloc print for each tenant on standard error. It says what the tenant used, then what it
-requested, and then, by docs/capacity.md, how many superblocks are enough for any load that never has more blocks and
-objects at a time."""
+requested, and then, by docs/capacity.md, how many superblocks are enough for any load that never has more blocks and objects at a
+time than this tenant had."""
 import collections
 import sys
 
@@ -32,7 +32,7 @@ class Used:
     def __init__(self):
         self.slots = self.largest = 0                   # the most slots, and the frames of the largest block
         self.frames = self.in_slabs = self.asked = 0    # frames taken now, those in slabs, requested bytes of live objects
-        self.most = 0, 0, 0                             # these three when `frames` was greatest; at a tie, when `asked` was
+        self.most = 0, 0, 0                             # these three when `frames` was greatest, and at a tie `asked` too
         self.objects = collections.Counter()            # the live objects of each slab, by its first frame
 
     def note(self, slots, frames):
@@ -53,7 +53,7 @@ class Used:
         self.frames -= frames
 
     def add_object(self, slab, frames, asked):
-        """Adds an object with `asked` requested bytes, in the slab of this number of frames that begins at frame `slab`."""
+        """Adds an object with `asked` requested bytes, in the slab of `frames` frames that begins at frame `slab`."""
         self.objects[slab] += 1
         self.asked += asked
         if self.objects[slab] == 1:
@@ -100,8 +100,8 @@ def tell_sizes(sizes):
 
 
 def tell_needs(blocks, order):
-    """Prints how many superblocks are enough, by docs/capacity.md, for any load that never has more blocks at a time than
-    `blocks`, a list of (order, number of blocks), has of each order."""
+    """Prints how many superblocks are enough, by docs/capacity.md, for any load that at no time has more blocks of an order than
+    `blocks` has. `blocks` is a list of (order, number of blocks)."""
     frames = sum(count * 2**block for block, count in blocks)
     heading('for any load with at most as many blocks and objects at a time')
     row(frames, f'{plural("frame", frames)} {"holds" if frames == 1 else "hold"} them')

@@ -46,7 +46,7 @@ def arguments(description):
 
 
 def checked(given):
-    """Returns the arguments. Fails if no machine has these sizes or one tenant for each log, or if there is no partmem. With
+    """Returns the arguments. Fails if a machine cannot have these sizes or a tenant for each log, or if there is no partmem. With
     --largest, replaces the logs by the largest ones."""
     if given.order not in ORDERS:
         fail(f'--order {given.order}: the order of a superblock is {ORDERS[0]} to {ORDERS[-1]}', 2)
@@ -207,8 +207,8 @@ def longest(surveys, together):
 
 def merged(counts, most):
     """Returns, for each size, the size that is used instead, so that at most `most` sizes are used. `counts` says how often each
-    size is requested. Each step merges one size into the next greater one. It is the size for which this wastes least: its number
-    of requests times its distance to the next size."""
+    size is requested. Each step merges one size into the next greater one. It merges the size for which this wastes least. The
+    waste is the number of requests for this size times its distance to the next size."""
     kept = dict(counts)
     while len(kept) > most:
         sizes = sorted(kept)
@@ -247,8 +247,8 @@ class Machine:
         return None if words[1] in ('1', '13', '15') else fail(f'partmem answered "{line}" by "{" ".join(words)}"')
 
     def grant(self, tenant):
-        """Grants the tenant a superblock, and returns whether it got one. If none is left, first takes an unused slot from
-        another tenant that has one."""
+        """Grants the tenant a superblock, and returns whether it got one. If no superblock is left, first takes an unused slot
+        from another tenant that has one."""
         line = f'admin grant {tenant.number}'
         words = self.ask(line)
         if not words and any(other.take_back(1) for other in self.tenants if other is not tenant):
@@ -314,7 +314,7 @@ class Tenant:
         parts.append(part)
 
     def note(self, parts):
-        """Notes what the tenant has, after a request was met by these parts. Does nothing if there are none."""
+        """Notes what the tenant has, after a request was met by these parts. Does nothing if there are no parts."""
         for part in parts:
             if self.live[part.asked] > self.most[part.asked]:
                 self.most[part.asked] = self.live[part.asked]
@@ -399,8 +399,8 @@ class Tenant:
 
     def most_blocks(self):
         """Returns a list of (order, the most blocks of this order at a time): one pair for each order of page blocks, and one for
-        the slabs of each cache. A cache makes a slab only when all its others are full, so it never has more slabs than its most
-        live objects fill."""
+        the slabs of each cache. A cache makes a slab only when all its others are full, so it never has more slabs than the
+        greatest number of its live objects needs."""
         return [(order, -(-self.most[line] // things)) for line, (order, things) in self.blocks.items() if self.most[line]]
 
 

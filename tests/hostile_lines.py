@@ -1,5 +1,6 @@
-"""Faulty, refused and accepted lines, with the reply to each, which was worked out by hand. Before each line, the lines of BEFORE
-give tenant 0 all frames of its superblock in one block. The machine has two tenants and two superblocks of eight frames."""
+"""Faulty, refused and accepted lines, with the reply to each. The replies were worked out by hand. Before each line, the lines of
+BEFORE give tenant 0 all frames of its superblock in one block. The machine has two tenants and two superblocks of eight
+frames."""
 
 BEFORE = b"admin grant 0\n0 alloc 3\n"
 REPLIES_BEFORE = b"admin> granted 0 slot 0 superblock 0\n0> frame 0\n"

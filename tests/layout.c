@@ -141,7 +141,7 @@ IS(PARTMEM_RAM_BYTES(8u, 256u), size_t);
 IS(PARTMEM_TABLE_BYTES(8u, 256u, 64u), size_t);
 _Static_assert(PARTMEM_RAM_BYTES(8, 256) == 256 << 20 && PARTMEM_TABLE_BYTES(8, 256, 64) < 5 << 20, "another size");
 
-/* Enums have 32 bits. The longest reply to a line is the one to `admin pool`: a first line, and a line for each of at most 256
+/* Enums have 32 bits. The longest reply to a line is the reply to `admin pool`: a first line, and a line for each of at most 256
  * superblocks. Each of these lines has at most 256 bytes. A read returns at most 64 bytes. */
 _Static_assert(sizeof(partmem_status) == 4 && sizeof(partmem_use) == 4, "another enum");
 _Static_assert(PARTMEM_MOST_TEXT_BYTES == 257 * 256 && PARTMEM_MOST_BYTES == 64, "another buffer");

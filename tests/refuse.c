@@ -1,5 +1,5 @@
-/* A library that is loaded before the C library. It counts the allocations of a process from 1 on, and refuses the one whose
- * number is in the environment variable REFUSED.
+/* A library that is loaded before the C library. It numbers the allocations of a process, beginning with 1, and refuses the
+ * allocation whose number is in the environment variable REFUSED.
  *
  * If the environment variable COUNTED names a file, a line with two words is added to this file when the process ends. The first
  * word is the number of allocations before the first read. The second is the number of allocations after it, or `none` if nothing

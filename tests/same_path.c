@@ -6,10 +6,10 @@
  *
  * A row of a trace is not marked if it begins with '.': its line is run at full speed. The marks of commands that are followed
  * are '+' before a line, and '=' before an event, written as its kind, tenant, first and second number and the hex of its bytes.
- * '@' comes before a direct call, written in the same way; if it frees, reads or gives back, the program lends first. '*', '#'
- * and '&' are like '+', '=' and '@', but the command is followed into memcpy, memmove and memset too. A row of the output has the
- * number of steps of a command, a hash of the addresses of its instructions, a hash of the places that they read and wrote, and a
- * hash of the results. The row of a step has the address of the instruction and the hash of the places.
+ * '@' comes before a direct call, written in the same way; if the call frees, reads or gives back, the program lends first. '*',
+ * '#' and '&' are like '+', '=' and '@', but the command is followed into memcpy, memmove and memset too. A row of the output has
+ * the number of steps of a command, a hash of the addresses of its instructions, a hash of the places that they read and wrote,
+ * and a hash of the results. The row of a step has the address of the instruction and the hash of the places.
  *
  * The processor traps after each instruction while its trap flag is set, and the handler of the signal SIGTRAP sees all
  * registers. So the program follows itself, which takes a fourth of the time of ptrace and needs no permission to trace. The
@@ -18,9 +18,9 @@
  * The file "operands", if there is one in the working folder, has the memory operand of each instruction (as tests/same-path reads
  * them from a disassembly). A block that boot took has one part for each superblock if its size is a multiple of the number of
  * superblocks; for a block that grew in boot, this number is rounded up to a power of two. Any other block is a single part. The
- * hash of an access to a block is made of the block's size (one more for a superblock), the number of the part, and the offset in
- * the part. In each command, parts are numbered in the order of their first access. So equal hashes mean equal accesses, except
- * for the numbers of superblocks. The hash of any other access is made of its address.
+ * hash of an access to a block is made of the block's size (plus 1 if the block is in the RAM), the number of the part, and the
+ * offset in the part. In each command, parts are numbered in the order of their first access. So equal hashes mean equal
+ * accesses, except for the numbers of superblocks. The hash of any other access is made of its address.
  */
 #define _GNU_SOURCE /* registers by name */
 #include <fcntl.h>

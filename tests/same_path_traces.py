@@ -2,8 +2,8 @@
 
 A tenant's own list is its commands, and the administrator's grants, take-backs and resets for it that are not refused. Only the
 mixed trace has moves, `admin pool`, broken lines, refused grants and take-backs, and the commands of the other tenants. Each line
-depends on the library's replies to the lines before, so the traces use the frames and places that the library returns. The same
-seed makes the same traces.
+depends on the library's replies to the lines before, so the traces use the frames and places that the library returns. A command
+is followed if tests/same-path compares its instructions. The same seed makes the same traces.
 """
 import random
 
@@ -193,8 +193,8 @@ class LongPair(Pair):
     """Like Pair, but each tenant has two caches of 200 slabs, so that the library keeps their lists in groups of slabs.
 
     A slab has two objects, so each `take` and `give` moves a slab to another list, mostly into the middle of it. A tenant gives
-    back one object of most slabs of a cache, slot by slot, then the other one, and then takes all of them again. Most of its
-    commands are not followed, to save time.
+    back one object of most slabs of a cache, slot by slot, then the other object of these slabs, and then takes as many objects
+    again. Most of its commands are not followed, to save time.
     """
 
     # The first and the last cache of a tenant are used. The blocks are as large as a slot, and the slabs lie on both sides of

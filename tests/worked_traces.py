@@ -2,9 +2,10 @@
 
     worked_traces.py FOLDER [OTHERS]
 
-Writes each trace of the tables with the replies to all tenants to FOLDER/NAME-NN, and its replies to FOLDER/NAME-NN.stdout. These
-traces run on the machine SMALL. Writes the traces with the replies to only one tenant, and the traces that built_traces.rt
-builds, to OTHERS/other-NN, their replies to OTHERS/other-NN.stdout, and their command lines to OTHERS/other-NN.words."""
+If a table has the replies to all tenants, its traces are written to FOLDER/NAME-NN, and their replies to FOLDER/NAME-NN.stdout.
+These traces run on the machine SMALL. If a table has the replies to only one tenant, its traces are written to OTHERS/other-NN,
+their replies to OTHERS/other-NN.stdout, and their command lines to OTHERS/other-NN.words. The traces that built_traces.rt builds
+are written there in the same way."""
 import codecs
 import os
 import re

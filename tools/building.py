@@ -54,7 +54,8 @@ def uses():
 
 @functools.lru_cache(maxsize=None)
 def below(crate):
-    """Returns the repository's crates that a crate uses, directly or through others. Each comes after those that it uses."""
+    """Returns the repository's crates that a crate uses, directly or through others. Each crate comes after the crates that it
+    uses."""
     found = []
     for used in uses()[crate]:
         if used in uses():
@@ -88,7 +89,8 @@ def compile_in_c(work, flags, files):
 
 
 def compile_functions_in_c(work, flags, left_out=()):
-    """Compiles the C files beside partmem.h as compile_in_c does, except those left out and the one of libpartmem_watched.a."""
+    """Compiles the C files beside partmem.h as compile_in_c does, except the files `left_out` and the file of
+    libpartmem_watched.a."""
     files = sorted(glob.glob(f"{TOP}/crates/{LIBRARY}/*.c"))
     return compile_in_c(work, flags, [file for file in files if os.path.basename(file) not in [OF_WATCHED, *left_out]])
 

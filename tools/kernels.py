@@ -25,7 +25,7 @@ class Kernel(NamedTuple):
     flags: list[str]
     flags_for_c: list[str]
     # What is added to the attributes of each function in the text. Some flags of clang have no effect on a module that is already
-    # text, and these attributes have that effect.
+    # text. These attributes take the place of those flags.
     attributes: str
     # What is added at the end of the text: flags of the module, in place of more flags of clang that have no effect on text.
     last: str

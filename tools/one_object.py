@@ -10,8 +10,8 @@ import tempfile
 
 from building import TARGET, compile_functions_in_c, declared, kit, read, write
 
-# What is left out: the entries for tracing that clang writes with the padding of functions, and the notes with properties of all
-# units except the first.
+# What is left out: the entries for tracing that clang writes with the padding of functions, and, in all units except the first,
+# the notes with properties.
 TRACED = re.compile(r"^\t\.section\t__patchable_function_entries,.*\n\t\.p2align\t.*\n\t\.quad\t.*\n", re.M)
 NOTE = re.compile(r"^\t\.section\t\.note\.gnu\.property,.*\n(?:\t\.(?:p2align|long|asciz)\t.*\n)+", re.M)
 STRING = re.compile(r"\t\.(ascii|asciz|string)\b")

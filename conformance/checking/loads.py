@@ -11,8 +11,8 @@ from .words import Sizes
 
 # Everything counts as full if, of the lines sent at once, more than one in FULL is refused with NoFrames or PoolEmpty.
 FULL = 3
-# How many lines of a tenant's own list are sent at once, with noise (lines of other tenants) between them; and the most lines of
-# noise before each line of the own list.
+# Noise is lines of other tenants. OWN_AT_ONCE lines of a tenant's own list are sent at once, with at most MOST_NOISE lines of
+# noise before each of them.
 OWN_AT_ONCE, MOST_NOISE = 16, 3
 
 

@@ -155,7 +155,7 @@ class Maker:
         return self.one([world.sizes.order, world.sizes.order + 1]) if chance < 0.98 else self.one(WRONG_ORDERS)
 
     def drawn_in(self, bag, phase, places):
-        """Returns a number from the bag: one in the slot of the phase, if the phase has a slot and the bag a number in that slot.
+        """Returns a number from the bag. If the phase has a slot, and numbers of that slot are in the bag, returns one of these.
         Each slot has `places` numbers."""
         inside = [key for key in bag.keys if key // places == phase.slot] if phase.slot is not None else []
         return self.one(inside) if inside else bag.draw(self.rng)

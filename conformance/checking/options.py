@@ -12,7 +12,7 @@ from .traces import LIMITS
 from .words import Sizes
 
 TOP = os.path.dirname(os.path.dirname(os.path.dirname(os.path.abspath(__file__))))
-# How many loads are run without options and with --long; and the most that run at a time.
+# How many loads are run without options, how many are run with --long, and how many are run at a time at most.
 LOADS, LONG_LOADS, MOST_JOBS = 300, 8, 256
 INFINITE = float('inf')
 # Options that say which loads are run, and how. All other options are part of the test, and are repeated to run a load again.

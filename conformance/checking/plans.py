@@ -50,7 +50,7 @@ def granting_all_but_one(sizes, tenants):
 
 
 class Planner:
-    """Draws plans. Each machine has the sizes in `fixed` that are not None."""
+    """Draws plans. A size in `fixed` that is not None is the size of each machine."""
 
     def __init__(self, seed, number, fixed, with_caches):
         self.seed, self.number, self.fixed, self.with_caches = seed, number, fixed, with_caches
@@ -61,8 +61,8 @@ class Planner:
         return Sizes(*(drawn if fixed is None else fixed for fixed, drawn in zip(self.fixed, drawn)))
 
     def in_turn(self, choices, each):
-        """Returns one of the choices: the loads of a kind get them in turn. One load in `each` is of this kind. The order of the
-        choices depends on the seed."""
+        """Returns one of the choices for a load of a kind. One load in `each` is of this kind, and these loads get the choices in
+        turn. The order of the choices depends on the seed."""
         shuffled = random.Random(f'{self.seed}').sample(choices, len(choices))
         return shuffled[self.number // each % len(choices)]
 

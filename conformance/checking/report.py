@@ -9,8 +9,8 @@ from .plans import MOST_SUPERBLOCKS, MOST_TENANTS
 from .talk import Failure
 from .words import MOST_ORDER, counted, in_seconds, visible, words_of
 
-# How many lines of standard error are shown, at most: of the last lines, of the lines that say what happened, and of the stack
-# frames after each of these.
+# The lines of standard error that are shown: at most MOST_LAST_LINES at its end, at most MOST_TELLING that say what happened, and
+# at most MOST_FRAMES stack frames after each of those.
 MOST_LAST_LINES, MOST_TELLING, MOST_FRAMES = 5, 4, 3
 TELLING = re.compile(r'ERROR:|runtime error:|[Aa]ssertion|panicked at')
 FRAME = re.compile(r'\s*#\d+ |\s+\d+: ')

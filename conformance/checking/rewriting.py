@@ -1,14 +1,16 @@
 """Rewrites the lines of a run into others that may show the same finding: fewer lines that fill the same space, smaller blocks,
-or tenants numbered from 0 on.
+or tenants numbered from 0.
 
-A change maps numbers of lines to the exchanges that replace them, or to None for lines that are left out."""
+An exchange is a line with its replies. A change maps numbers of lines to the exchanges that replace them, or to None for lines
+that are left out."""
 import collections
 
 from .families import families_of
 from .runs import POWERS, Places, name_in, names_in, tenant_of
 from .words import FRAME_BYTES, MOST_ORDER, is_number, told_in
 
-# Sizes of objects that are tried instead of a cache's smaller size, and how many of the cache's last objects are then kept.
+# LARGER has sizes of objects that are tried if a cache has smaller objects. Then only the last objects of the cache are kept:
+# LAST_KEPT says how many.
 LARGER, LAST_KEPT = (4096, 2048, 1024, 512, 128, 32), (1, 2, 3, 4, 5, 6, 8, 9, 12, 16, 32)
 # If a cache has at most FEW_OBJECTS objects, no larger size is tried.
 FEW_OBJECTS = 3
@@ -81,7 +83,7 @@ def larger_objects(run):
 
 
 def wrong_numbers(run):
-    """Yields changes of the last line that replace a number that is no name by a lower one: the least name plus a power of
+    """Yields changes of the last line. Each replaces a number that is no name by a lower number: the least name plus a power of
     two."""
     at, words = len(run.exchanges) - 1, run.exchanges[-1][0].split()
     for word, kind in names_in(words) if len(words) > 1 else ():
@@ -128,7 +130,7 @@ def in_smaller_block(places, place):
 
 
 def with_first_tenants(run):
-    """Returns the lines with the existing tenants renumbered from 0 on, and a map from their old to their new numbers."""
+    """Returns the lines with the existing tenants renumbered from 0, and a map from their old to their new numbers."""
     there = sorted({int(word) for line, _ in run.exchanges if is_number(word := tenant_of(line))})
     names = {str(old): str(new) for new, old in enumerate(old for old in there if old < run.sizes.tenants)}
     lines = []

@@ -64,7 +64,7 @@ class Run:
         return [line for line, replies in self.exchanges if is_own(tenant, line, replies)]
 
     def speakers(self):
-        """Returns the tenants of the machine that some line names."""
+        """Returns those tenants of the machine that are named in at least one line."""
         numbers = collections.Counter(tenant_of(line) for line, _ in self.exchanges)
         return [tenant for tenant in range(self.sizes.tenants) if numbers[str(tenant)]]
 

@@ -9,8 +9,8 @@ from .runs import has_done, tenant_of
 from .talk import SECONDS, Failure, Programs
 from .words import LEAST_ORDER, Sizes, counted, in_seconds, is_number, told_in
 
-# For how many seconds a load is shortened; and for how many if the program hangs, since each run that shows this waits until the
-# time for a reply is over.
+# For how many seconds a load is shortened. The second number is for a program that hangs: each run that shows this waits until
+# the time for a reply is over.
 SHORTENING, SHORTENING_OF_HANGING = 30, 4
 # While a failure is shortened, a reply may take TIMES_SLOWEST times as long as the slowest reply of the whole load, but at least
 # LEAST_SECONDS and at most SECONDS.
@@ -19,13 +19,13 @@ TIMES_SLOWEST, LEAST_SECONDS = 10, 0.2
 SECONDS_AGAIN = 1
 # The kinds of failures that need no wait begin with these words.
 AT_ONCE = 'by ', 'with status '
-# Into how many parts a load is divided at first, to leave out each of them alone; and by what this number is multiplied if no
-# part can be left out.
+# At first a load is divided into FIRST_PARTS parts, to leave out each of them alone. If no part can be left out, the number of
+# parts is multiplied by TIMES_PARTS.
 FIRST_PARTS, TIMES_PARTS = 4, 4
 # Larger objects and other numbers are tried only if a load has more than FEW_LINES lines. Pairs of lines are left out only if
 # it has at most MOST_FOR_PAIRS.
 FEW_LINES, MOST_FOR_PAIRS = 3, 40
-# The first words of replies that give a name, and the commands that end its life.
+# GIVERS are the first words of replies that give a name. ENDS are the commands that end the life of a name.
 GIVERS, ENDS = ('granted', 'cache', 'frame', 'object'), ('free', 'give', 'destroy', 'takeback')
 
 
@@ -34,7 +34,7 @@ def is_at_once(finding):
 
 
 class Shortener:
-    """Shortens a case. Each machine has the sizes in `fixed` that are not None."""
+    """Shortens a case. A size in `fixed` that is not None is the size of each machine."""
 
     def __init__(self, judge, case, deadline, note, fixed=Sizes(None, None, None)):
         self.judge, self.case, self.deadline, self.note, self.fixed = judge, case, deadline, note, fixed

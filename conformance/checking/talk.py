@@ -16,10 +16,10 @@ from .words import ending, in_seconds, words_of
 SECONDS = 5
 # For how many seconds standard error is still read after the program was killed.
 SECONDS_OF_ERRORS = 0.2
-# How many bytes that answer no line the program may print at the end of a run; and how many printed bytes may wait during the run
-# until they are taken as replies. The replies to lines that are sent at once are much shorter.
+# At the end of a run the program may print at most MOST_UNASKED bytes that answer no line. During the run at most MOST_WAITING
+# printed bytes may wait until they are taken as replies. The replies to lines that are sent at once are much shorter.
 MOST_UNASKED, MOST_WAITING = 1 << 16, 1 << 20
-# The kind of the failure of a program that prints more than one of these numbers of bytes.
+# The kind of failure of a program that exceeds one of these two limits.
 BABBLES = 'babbles'
 # How many bytes of standard error are kept: at its beginning, with the words of a sanitizer or of a panic, and at its end.
 FIRST_ERRORS, LAST_ERRORS = 1 << 14, 1 << 12
@@ -29,8 +29,8 @@ GROUP_OF_ITS_OWN = {'process_group': 0} if sys.version_info >= (3, 11) else {'st
 
 
 class Failure(NamedTuple):
-    """How the program failed: the kind of failure, which a shorter load has to show too, a description, and what the program
-    wrote to standard error."""
+    """How the program failed: the kind of failure, a description, and what the program wrote to standard error. A shorter load
+    has to show a failure of the same kind."""
     kind: str
     words: str
     errors: str

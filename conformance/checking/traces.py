@@ -8,8 +8,8 @@ from .runs import replayed
 from .talk import Programs
 from .words import Sizes, words_of
 
-# How the line that names the machine begins, and how a line begins that keeps a reply line. Remarks are cut to MOST_REMARK bytes,
-# since a long remark would be a faulty line.
+# The line that names the machine begins with MACHINE, and each line that keeps a reply line begins with REPLY. Remarks are cut to
+# MOST_REMARK bytes, since a long remark would be a faulty line.
 MACHINE, REPLY, MOST_REMARK = '# machine: ', '#> ', 250
 LIMITS = Sizes((3, 8), (1, 256), (1, 64))
 

@@ -55,8 +55,8 @@ def order_in(word):
 
 
 def told_in(replies):
-    """Returns the words of the first reply line after `T> ` or `admin> `. Returns none if there is no reply, or if it begins with
-    `!`."""
+    """Returns the words of the first reply line after `T> ` or `admin> `. Returns an empty list if there is no reply, or if it
+    begins with `!`."""
     return replies[0].partition('> ')[2].split() if replies and not replies[0].startswith('!') else []
 
 

@@ -1,5 +1,5 @@
-/* Tests the edge cases of the heap: what an initialisation refuses, requests for no bytes and for too many, alignments, runs, and
- * direct calls that replace caches of the heap. */
+/* Tests the edge cases of the heap: what an initialisation refuses, requests for no bytes and for too many, alignments, runs
+ * (pieces of several superblocks that lie in sequence), and direct calls that replace caches of the heap. */
 #include "partmem_heap.h"
 #include "trial.h"
 
@@ -163,7 +163,8 @@ static void check_runs(void)
     MUST(partmem_heap_free(&heap, block) == PARTMEM_DONE);
 }
 
-/* Destroys the heap's cache of a class with a direct call, and makes one of this size and alignment 8. Returns its number. */
+/* Destroys the heap's cache of a class with a direct call, and makes a cache of `size` bytes and alignment 8 in its place.
+ * Returns its number. */
 static uint32_t replace_cache(uint32_t class_size, uint32_t size)
 {
     partmem_cache made;
@@ -197,8 +198,8 @@ static void check_caches(void)
     MUST(partmem_destroy_cache(first, cache) == PARTMEM_DONE);
 }
 
-/* Checks that direct calls can make 8 caches if the heap has one for each class. If they have made 31, the heap makes just one.
- * This one also serves smaller requests, and larger requests get page blocks. */
+/* Checks that direct calls can make 8 caches if the heap has one for each class. If direct calls have made 31, the heap makes
+ * just one cache. This cache also serves smaller requests, and larger requests get page blocks. */
 static void check_no_cache(void)
 {
     partmem_cache made;

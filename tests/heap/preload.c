@@ -1,5 +1,5 @@
-/* Makes the heap the malloc of an unmodified program that is started with LD_PRELOAD. One tenant has all superblocks of a machine
- * of 256 MiB, and its heap has runs. A wrong free ends the program. When the program ends, a line is added to the file
+/* Lets an unmodified program that is started with LD_PRELOAD use the heap as its malloc. One tenant has all superblocks of a
+ * machine of 256 MiB, and its heap has runs. A wrong free ends the program. When the program ends, a line is added to the file
  * that HEAP_COUNTS names. It has the numbers of requests, frees and refused requests. */
 #define _GNU_SOURCE
 #include <errno.h>

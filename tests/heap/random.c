@@ -318,8 +318,8 @@ static uint32_t direct_caches(const struct user *user)
     return count;
 }
 
-/* Returns how many caches the tenant may have from direct calls. A heap always leaves 8 for them. The last of the four tenants
- * may have 29, so that its heap has no cache for some classes. */
+/* Returns how many caches the tenant may have from direct calls. A heap always leaves 8 caches for direct calls. The last of the
+ * four tenants may have 29, so that its heap has no cache for some classes. */
 static uint32_t most_direct(const struct user *user) { return user->tenant.number == STABLE - 1 ? 29 : 8; }
 
 static void make_cache(struct user *user)
@@ -384,7 +384,8 @@ static void release_direct(struct user *user, struct piece *piece)
 
 /* ---- Worlds ------------------------------------------------------------------------------------------------------------- */
 
-/* Returns a random piece. While the tenant is filling, it is mostly one that is not live; otherwise it is mostly a live one. */
+/* Returns a random piece. While the tenant is filling, the piece is mostly one that is not live; otherwise it is mostly a live
+ * one. */
 static struct piece *any_piece(struct user *user)
 {
     struct piece *piece = NULL;

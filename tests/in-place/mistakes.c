@@ -1,6 +1,6 @@
 /* Tests mistakes of a caller that do not break memory. Each call has to return the first status that applies, and to set its
- * results to zeroes. Only a read leaves its buffer unchanged, and an event its reply. Also tests calls whose lengths are larger
- * than their buffers, and three functions that are written in C. */
+ * results to zeroes. There are two exceptions: a read leaves its buffer unchanged, and an event leaves its reply unchanged. Also
+ * tests calls whose lengths are larger than their buffers, and three functions that are written in C. */
 #include "trial.h"
 
 static partmem_machine machine, none;
@@ -31,7 +31,7 @@ static bool are_all(const void *result, uint8_t byte, size_t size)
 #define LEAVES(call, status, result, byte) \
     (memset(&(result), UNTOUCHED, sizeof(result)), (call) == (status) && are_all(&(result), byte, sizeof(result)))
 
-/* Return whether a call returns this status, and sets its result to zeroes (ZEROED) or leaves it as it was (KEPT). */
+/* These two say whether a call returns this status, and sets its result to zeroes (ZEROED) or leaves it as it was (KEPT). */
 #define ZEROED(call, status, result) LEAVES(call, status, result, 0)
 #define KEPT(call, status, result) LEAVES(call, status, result, UNTOUCHED)
 
@@ -55,8 +55,8 @@ static void check_tenant(partmem_tenant tenant, partmem_status status)
     MUST(ZEROED(partmem_find_place(tenant, bytes, &frames), status, frames));
 }
 
-/* Checks that partmem_write and partmem_make_cache first test the machine, then whether a line of a trace can have bytes of this
- * length, and then the tenant. partmem_read tests its length after the tenant. */
+/* Checks that partmem_write and partmem_make_cache first test the machine, then whether a line of a trace can have this number of
+ * bytes, and then the tenant. partmem_read tests its length after the tenant. */
 static void check_lengths(void)
 {
     MUST(partmem_write(nowhere, 0, bytes, 0) == PARTMEM_NO_MACHINE && partmem_write(nobody, 0, bytes, 0) == PARTMEM_NOT_AN_EVENT);

@@ -30,8 +30,8 @@ pub enum Error {
     /// The [`Memory`](crate::Memory) of a machine is too small or not aligned. Or a tenant cannot have a heap with runs: it has
     /// no slot, or its slots do not lie in a row.
     BadMemory,
-    /// An allocation failed. A heap returns it if no free block of its tenant is large enough, or if the alignment of the value
-    /// is above 4096.
+    /// An allocation failed. A heap returns this error if no free block of its tenant is large enough, or if the alignment of the
+    /// value is above 4096.
     NoMemory,
     /// The pattern of a cache does not have 1 to 16 bytes.
     BadPattern,

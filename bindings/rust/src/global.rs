@@ -169,8 +169,8 @@ impl Drop for AbortsIfUnwound {
 }
 
 // SAFETY: a piece has the size and the alignment of its layout, overlaps no other piece, and stays until it is freed: the machine
-// never ends, and nobody gets a client of this tenant, without which it is neither reset nor moved. If the lock passes another
-// heap than before, that heap refuses what it has not allocated.
+// never ends, and a reset or a move of this tenant needs its client, which nobody gets. If the lock passes another heap than
+// before, that heap refuses what it has not allocated.
 unsafe impl<L: Lock<LazyHeap>> GlobalAlloc for Global<L> {
     unsafe fn alloc(&self, layout: Layout) -> *mut u8 {
         self.with_heap(|heap| heap.allocate(layout))

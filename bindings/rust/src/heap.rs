@@ -61,7 +61,7 @@ impl RawHeap {
         to
     }
 
-    /// Destroys the heap's caches, except those that still have a live object, because it was leaked.
+    /// Destroys the heap's caches, except those that still have a live object. Such an object was leaked.
     fn close(&mut self, tenant: sys::Tenant) {
         for cache in self.0.get_mut().cache_of.iter().filter(|cache| **cache > 0) {
             // SAFETY: the machine is booted, and no other call of it runs. Nothing of a cache without live objects is used.
@@ -211,7 +211,7 @@ impl<T> Boxed<'_, T> {
 
 impl<T: ?Sized> Drop for Boxed<'_, T> {
     fn drop(&mut self) {
-        // Frees the memory after the value is dropped, even if that panics.
+        // Frees the memory after the value is dropped, even if its drop panics.
         let _piece = Piece { at: self.at.as_ptr().cast(), heap: self.heap };
         // SAFETY: the value is alive, and this is its only owner.
         unsafe { ptr::drop_in_place(self.at.as_ptr()) };

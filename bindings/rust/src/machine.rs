@@ -152,8 +152,8 @@ impl Machine {
         sys::Tenant(self.raw.as_ptr(), tenant.0)
     }
 
-    /// Returns the tenant. Fails with `Stale` if the stamp is that of a handle or a [`Cache`] of another machine or from before a
-    /// reset, or that of a `Cache` that was destroyed.
+    /// Returns the tenant, if `stamp` is its current stamp. Fails with `Stale` if it is not: then the handle or [`Cache`] with
+    /// this stamp belongs to another machine or is from before a reset, or the `Cache` was destroyed.
     fn check(&self, tenant: Tenant, stamp: u64) -> Result<sys::Tenant, Error> {
         let same = self.stamps.get(tenant.0 as usize).map(Cell::get) == Some(stamp);
         same.then_some(self.of(tenant)).ok_or(Error::Stale)
@@ -236,8 +236,8 @@ impl Machine {
         Handle { stamp: self.stamps[tenant.0 as usize].get(), moves: self.moves.get(), at, tenant, place, bytes, kind }
     }
 
-    /// Allocates 2^order frames. A frame has what the tenant left there in a page block since the grant. If it was in no page
-    /// block since the grant, or has been in a slab since its last page block, it has zeroes.
+    /// Allocates 2^order frames. A frame has the bytes that it had when its last page block was freed. If it was in no page block
+    /// since the grant, or has been in a slab since its last page block, it has zeroes.
     pub fn alloc(&self, tenant: Tenant, order: u32) -> Result<Block, Error> {
         // SAFETY: the machine is booted, no other call of it runs, and the result goes to a local variable.
         let lent = result(|lent| unsafe { sys::partmem_alloc(self.of(tenant), order, lent) })?;

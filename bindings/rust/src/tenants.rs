@@ -15,7 +15,7 @@ pub struct Client<'a> {
     tenant: Tenant,
 }
 
-/// An iterator over the clients of a machine, one for each tenant, in the order of their numbers. The one that
+/// An iterator over the clients of a machine, one for each tenant, in the order of their numbers. The iterator that
 /// [`Global::with_others`](crate::Global::with_others) passes leaves out the tenant of the global allocator.
 pub struct Clients<'a> {
     machine: &'a Machine,

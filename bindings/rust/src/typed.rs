@@ -103,7 +103,7 @@ impl<'k, T> Object<'k, T> {
 
 impl<T> Drop for Object<'_, T> {
     fn drop(&mut self) {
-        // Gives the object back after the value is dropped, even if that panics.
+        // Gives the object back after the value is dropped, even if its drop panics.
         let taken = Taken { at: self.at, place: self.place, cache: self.cache };
         // SAFETY: the value is alive, and this is its only owner.
         unsafe { ptr::drop_in_place(taken.at.as_ptr()) };
