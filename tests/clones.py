@@ -34,9 +34,10 @@ LIBRARY = "#!/bin/sh\n"
 
 
 def changed_files(folder):
-    """Returns the files of a folder that git neither tracks nor ignores, and the tracked ones that differ from the index."""
-    asked = ["git", "-C", folder, "ls-files", "-mo", "--exclude-standard"]
-    return subprocess.run(asked, stdout=subprocess.PIPE, text=True, check=True).stdout.splitlines()
+    """Returns the files of a folder that git neither tracks nor ignores, and the tracked ones that differ from the last commit."""
+    asked = ["ls-files", "-o", "--exclude-standard"], ["diff", "--name-only", "--no-renames", "HEAD"]
+    ran = [subprocess.run(["git", "-C", folder, *words], stdout=subprocess.PIPE, text=True, check=True) for words in asked]
+    return [path for one in ran for path in one.stdout.splitlines()]
 
 
 def put(path, folder):
