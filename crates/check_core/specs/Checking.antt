@@ -82,7 +82,7 @@ IsStoppedBy Unchecked.Trace unread untold short = (unread ≡ true) × (untold �
 IsStoppedBy Unchecked.Replies unread untold short = (unread ≡ false) × (untold ≡ true)
 IsStoppedBy Unchecked.Memory unread untold short = (unread ≡ false) × (untold ≡ false) × short
 
--- how a call ended: it returned `Ok` and neither reader failed, or the error that it returned stopped it
+-- how a call ended: it returned `Ok` and neither reader failed, or it returned an error whose cause is as `IsStoppedBy` says
 abbrev pub IsEndedBy : {A : Type 0} → Result A Unchecked → (unread untold : Bool) → (short : Type 0) → Type 0
 IsEndedBy (Ok done) unread untold short = (unread ≡ false) × (untold ≡ false)
 IsEndedBy (Err why) unread untold short = IsStoppedBy why unread untold short

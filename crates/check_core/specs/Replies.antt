@@ -65,7 +65,7 @@ refused_at text = do
   ended ← form_at (codes "\n") named.1
   Some (Body.Refused refusal, ended.1)
 
--- the bytes that a word spells in lower-case hex: encoded again, they give that word
+-- the bytes that were decoded from a word, if they give this word again when they are encoded in lower-case hex
 abbrev pub bytes_again : List ℕ → Result (List ℕ) FromHexError → Option (List ℕ)
 bytes_again word (Ok bytes) = if bytes_eq (encode_lower bytes) word then Some bytes else None
 bytes_again word (Err e) = None

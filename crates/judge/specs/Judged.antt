@@ -61,8 +61,8 @@ pub record IsFollowed (event : Event) (body : Body) (w : Known) (old new : Seen)
   pub state : state_after old.left.order event body (state_of old) ≡ Some (state_of new)
 
 -- If the result is `Ok`, the reply keeps every promise, and `new` is the tenant after the reply. If the result is a failure, the
--- tenant is unchanged. The failure is the first promise that the reply breaks, or it says that memory ran out for what an allowed
--- reply adds.
+-- tenant is unchanged. The failure is the first promise that the reply breaks. Or the reply keeps every promise, but there was
+-- not enough memory to note what it adds.
 abbrev pub IsVerdictFor : Event → Body → Known → Seen → Seen → Result (Unit {0}) Failure → Type 0
 IsVerdictFor event body w old new (Ok _) = IsFollowed event body w old new
 IsVerdictFor event body w old new (Err (Failure.Broken promise)) = (tenant_verdict event body w old ≡ Err promise) × (new ≡ old)

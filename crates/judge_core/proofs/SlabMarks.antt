@@ -22,8 +22,8 @@ has_over_block x b = overlaps (block x 0) b
 abbrev pub has_over : KnownCache → ℕ → ℕ → Bool
 has_over c x p = overlaps (block x 0) (slab_around c p)
 
--- Here `a` is the first place of the aligned block of the cache's order around frame `first`. The slabs around live objects
--- before `a` end before frame `first`. So a search for a slab that contains frame `first` or a later frame may skip these
+-- Here `a` is the place where the aligned block of the cache's order that contains frame `first` begins. The slabs around live
+-- objects before `a` end before frame `first`. So a search for a slab that contains frame `first` or a later frame may skip these
 -- objects.
 pub any_from : (c : KnownCache) (first x a : ℕ) (live : List ℕ) → a ≡ 4096 * (first / 2 ^ c.order * 2 ^ c.order) → first ≤ x
     → list_any (has_over c x) (drop (prefix_len (λ p. nat_lt p a) live) live) ≡ list_any (has_over c x) live

@@ -76,7 +76,8 @@ loaded_alone = record {
   is = alone_granted.1.together.space.own_bytes.window 0 5 1 (7 ∷ []) refl refl 5;
 }
 
--- for each of the four lines: if its event is a step with this reply, the text of the call answers the line
+-- One lemma for each of the four lines. If the line's event leads from kernel k to kernel k' with the reply that the lemma names,
+-- the text of the call answers the line.
 granting : (k k' : KernelContent) → Steps k (On.Admin (Do.Grant 0)) k' (granted_reply 0 0 0) → AnswersLine k (reading_of grant_0.line) k' grant_0.text
 unfolding reading_of words_of reading_of_words event_of digits
 granting k k' steps = (granted_reply 0 0 0, steps, refl)

@@ -35,8 +35,8 @@ abbrev pub StandsAfterCalls : Type 0
 StandsAfterCalls = (k k' : KernelContent) (calls : List Call) → Ran k calls k' → (w : World) → Shows k w →
     Shows k' (world_after cache_limit k.order w (events_of (lines_of_calls calls)))
 
--- From boot on, the reply lines that were written for a tenant are those of its private machine, run on the tenant's own list of
--- the trace of all lines. This holds whatever the other tenants do.
+-- From boot on, the reply lines that were written for a tenant are those of its private machine, run on the tenant's own list.
+-- This list is taken from the trace that the lines of all calls make. The law holds whatever the other tenants do.
 abbrev pub OwnLinesOfCalls : Type 0
 OwnLinesOfCalls = (k k' : KernelContent) (superblocks tenants t : ℕ) (calls : List Call) →
     Shows k (opening_world superblocks tenants) → t < tenants → Ran k calls k' →

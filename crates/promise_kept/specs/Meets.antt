@@ -43,13 +43,13 @@ is_object_live h (Holder.Object number first) place = list_any (λ c. c.number =
 -- The known state s is true of machine m. Slots have 2 ^ order frames.
 pub record Meets (order : ℕ) (s : State) (m : Machine) : Type 0 where
   pub has : s.has ≡ holdings_of m
-  -- a cache that has a slab is known as one that may have an empty slab
+  -- if a cache has any slab, what is known allows it to have an empty one
   pub may_have_empty : (c : Cache) (slab : Slab) → Contains m.caches c → Contains c.slabs slab → s.may_have_empty c.number ≡ true
   -- a byte whose holder is not live is in doubt
   pub lives : (place : ℕ) (cell : Cell) → s.cells place ≡ Some cell → cell.sure ≡ true → is_object_live s.has cell.holder place ≡ true
-  -- each byte outside slabs is a byte that a page block may have there
+  -- each byte outside slabs has a value that a page block may have there
   pub page_bytes : (place byte : ℕ) → in_slab m place ≡ false → m.bytes place ≡ Some byte → may_be Holder.Page 0 (s.cells place) byte ≡ true
-  -- each byte of an object, live or not, is a byte that the object may have there
+  -- each byte of an object, live or not, has a value that the object may have there
   pub object_bytes : (o : Object) (j byte : ℕ) → IsObject m o → j < o.cache.size → m.bytes (place_of o + j) ≡ Some byte
       → may_be (Holder.Object o.cache.number (place_of o)) (pattern_byte o.cache.pattern j) (s.cells (place_of o + j)) byte ≡ true
   -- a valid report has the empty slabs and the free blocks of the machine

@@ -51,8 +51,8 @@ pub record IsCutShort (only : Option ℕ) (before after : KernelContent) (lines 
   pub shown : (w : World) → Shows before w → IsCutIn (λ xs. shown_lines only cache_limit before.order xs w) lines line taken
   pub counted : Counts tally (lines ++ line ∷ []) taken
 
--- There are two cases. Of the lines that ended in LF, the feed gave these lines first. Or the feed has ended, and these are all
--- lines that it gave.
+-- There are two cases. Either `lines` are the first of the lines with an LF that the feed gave. Or the feed has ended, and
+-- `lines` are all lines that it gave.
 abbrev pub HasCome : Bool → List ℕ → List (List ℕ) → Type 0
 HasCome ended given lines = ((rest : List (List ℕ)) × (ended_lines given ≡ lines ++ rest)) ⊎ ((ended ≡ Bool.true) × (lines_of_trace given ≡ lines))
 
