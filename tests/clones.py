@@ -33,9 +33,10 @@ done
 LIBRARY = "#!/bin/sh\n"
 
 
-def changed_files(folder):
-    """Returns the files of a folder that git neither tracks nor ignores, and the tracked ones that differ from the last commit."""
-    asked = ["ls-files", "-o", "--exclude-standard"], ["diff", "--name-only", "--no-renames", "HEAD"]
+def changed_files(folder, *commit):
+    """Returns the files of a folder that git neither tracks nor ignores, and the tracked ones that differ from the commit, or from
+    the index if no commit is given."""
+    asked = ["ls-files", "-o", "--exclude-standard"], ["diff", "--name-only", "--no-renames", *commit]
     ran = [subprocess.run(["git", "-C", folder, *words], stdout=subprocess.PIPE, text=True, check=True) for words in asked]
     return [path for one in ran for path in one.stdout.splitlines()]
 
@@ -54,7 +55,7 @@ def fresh_clone(work):
     """Makes a clone that has the uncommitted changes and nothing built. Returns its folder."""
     folder = os.path.join(work, "partmem")
     subprocess.run(["git", "clone", "-q", TOP, folder], check=True)
-    for path in changed_files(TOP):
+    for path in changed_files(TOP, "HEAD"):
         put(path, folder)
     subprocess.run(["git", "-C", folder, "add", "-A"], check=True)
     return folder
