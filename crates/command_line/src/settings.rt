@@ -42,10 +42,10 @@ Lines of a trace, and the replies:
   T give C PLACE          T> given
   T reap                  T> reaped F
   T report                T> frames .., then a line for each order and each cache
-A refused command is answered T> refused NUMBER NAME, the administrator's admin> refused
-NUMBER NAME, and one of a number that is no tenant !> refused 12 NoTenant. A faulty line is
-answered !> fault NAME: any line of more than 255 bytes, a comment too, is !> fault Long.
-Other comments, which begin with #, and blank lines have no reply.
+A refused command of tenant T gets T> refused NUMBER NAME, and one of the administrator gets
+admin> refused NUMBER NAME. If there is no tenant T, a command of T gets !> refused 12
+NoTenant. A faulty line gets !> fault NAME. A line of more than 255 bytes gets !> fault Long,
+even if it is a comment. Other comments, which begin with #, and blank lines have no reply.
 
 With --own T no replies are written. Instead, the lines of the trace that make up tenant T's own
 list are copied: T's commands, grants and take-backs of T's slots that were not refused, and

@@ -59,7 +59,8 @@ next_less n m other = ⊎_elim
     (λ le. le-ltb n (m + 1) (omega (arith, other)) ∙ sym (le-ltb n m le))
     (cases_lt n m)
 
--- if the tenant's superblocks below m are taken back, and then its superblock m, all its superblocks below m + 1 are taken back
+-- if all superblocks of the tenant below m were taken back, and m is one too, the tenant has none below m + 1 after m is taken
+-- back
 pub giving_takes : (old now : Content) (t slot m told : ℕ) → IsGivingUp old now t m told → IsSpace now → OthersStay now → m < length old.owners → owner_at now.owners m ≡ Some (owned_by t slot)
     → IsGivingUp old (with_take_back now t slot m) t (m + 1) (told + 1)
 giving_takes old now t slot m told g space stay below own =

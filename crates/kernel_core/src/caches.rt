@@ -21,8 +21,8 @@ impl Kernel {
     /// Makes a cache of objects of `size` bytes. An object begins at a multiple of `align` and is constructed with the pattern.
     ///
     /// Refuses with `BadSize`, then with `BadAlign`, then with `NoCacheSlot` if the tenant already has `MOST_CACHES` caches.
-    // Always inlined: a call would return the answer in memory. Every request, of any kind, would then clear that memory and read
-    // its answer from there.
+    // Always inlined: a call would return the answer in memory. Since all arms of `Kernel::run` share one answer, requests of
+    // other kinds would then clear that memory and read their answers from there too.
     #[inline(always)]
     pub(crate) fn make_cache(
         &mut self,
@@ -91,7 +91,7 @@ impl Kernel {
     }
 
     /// Gives an object back to its cache.
-    // Always inlined, so that giving an object back is one call, and the result is kept in registers.
+    // Always inlined, as `Slabs::give` is, so the caller makes no call to give an object back, and the result stays in registers.
     #[inline(always)]
     pub(crate) fn give(&mut self, t: u8, cache: u32, place: u32) -> Result<(), Refusal>
         requires { t < self.old.tenants }

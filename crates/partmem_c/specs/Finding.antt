@@ -20,7 +20,8 @@ abbrev pub Returns : {A : Type 0} → A → Result A Refusal → ℕ → A → T
 Returns nothing (Ok there) status found = (status ≡ DONE) × (found ≡ there)
 Returns nothing (Err refusal) status found = (status ≡ number_of_refusal refusal) × (found ≡ nothing)
 
--- The call returns a result that `Finds` allows for the held kernel. Without a machine, it returns `nothing` with NO_MACHINE.
+-- If the storage holds a machine with kernel k, `Finds` relates k to the outcome of the lookup, and `status` and `found` are the
+-- status and the value of this outcome. Otherwise they are NO_MACHINE and `nothing`.
 abbrev pub LooksUp : {A : Type 0} → A → Option KernelContent → (KernelContent → Result A Refusal → Type 0) → ℕ → A → Type 0
 LooksUp nothing None Finds status found = (status ≡ NO_MACHINE) × (found ≡ nothing)
 LooksUp {A} nothing (Some k) Finds status found =
