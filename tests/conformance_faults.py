@@ -327,7 +327,7 @@ SLABS = [
     Fault('edges', 'the last object of a slab is never taken', 'Room', [
         ('        if (slab->live < cache->objects &&',
          '        if (slab->live + 1 < cache->objects &&')], 20),
-    Fault('edges', 'a take uses one object more than a slab has', 'Objects', [
+    Fault('edges', 'a take uses one object more than a slab has', 'Objects Report', [
         ('        if (slab->live < cache->objects &&',
          '        if (slab->live <= cache->objects &&')]),
     Fault('scrub', 'slabs are not zeroed', 'Bytes', [
