@@ -19,7 +19,6 @@ use Rattle.promise_core.specs.declared.promise.Promise.{Promise}
 use Rattle.words_core.specs.Texts.{text_of}
 use Rattle.promise_core.specs.State.{Known}
 use Rattle.promise_core.specs.Promises.{allowed}
-use Rattle.judge.specs.KnownMachine.{SeenMachine}
 use Rattle.check_core.specs.Tables.{reply_of_text}
 use Rattle.check_core.specs.declared.finding.Finding.{Finding}
 use Rattle.check_core.specs.declared.shown.TheConstants.{MOST_TEXT_BYTES}
@@ -143,21 +142,21 @@ abbrev pub finding_of : Known → List ℕ → List ℕ → Finding
 finding_of w trace replies = finding 0 0 (readings_of trace) replies w
 
 -- the tenant's first live page block that shares a frame with the page block that the reply allocates, if there is one
-abbrev pub page_in_way : SeenMachine → Event → Body → Option Block
-page_in_way x (Event.Tenant t (Command.Alloc k)) (Body.Frame f) = if nat_le k MOST_ORDER
-    then option_map_or (λ y. find (overlaps (block f k)) y.has.pages) (slice_get x.tenants t) None else None
-page_in_way x (Event.Tenant t (Command.Alloc k)) body = None
-page_in_way x (Event.Tenant t (Command.Free f)) body = None
-page_in_way x (Event.Tenant t (Command.Read place len)) body = None
-page_in_way x (Event.Tenant t (Command.Write place bytes)) body = None
-page_in_way x (Event.Tenant t (Command.Cache size align pattern)) body = None
-page_in_way x (Event.Tenant t (Command.Destroy number)) body = None
-page_in_way x (Event.Tenant t (Command.Take number)) body = None
-page_in_way x (Event.Tenant t (Command.Give number place)) body = None
-page_in_way x (Event.Tenant t Command.Reap) body = None
-page_in_way x (Event.Tenant t Command.Report) body = None
-page_in_way x (Event.Admin (AdminCommand.Grant t)) body = None
-page_in_way x (Event.Admin (AdminCommand.TakeBack t u)) body = None
-page_in_way x (Event.Admin (AdminCommand.Reset t)) body = None
-page_in_way x (Event.Admin (AdminCommand.Move t u)) body = None
-page_in_way x (Event.Admin AdminCommand.Pool) body = None
+abbrev pub page_in_way : Known → Event → Body → Option Block
+page_in_way w (Event.Tenant t (Command.Alloc k)) (Body.Frame f) = if nat_le k MOST_ORDER
+    then option_map_or (λ s. find (overlaps (block f k)) s.has.pages) (slice_get w.states t) None else None
+page_in_way w (Event.Tenant t (Command.Alloc k)) body = None
+page_in_way w (Event.Tenant t (Command.Free f)) body = None
+page_in_way w (Event.Tenant t (Command.Read place len)) body = None
+page_in_way w (Event.Tenant t (Command.Write place bytes)) body = None
+page_in_way w (Event.Tenant t (Command.Cache size align pattern)) body = None
+page_in_way w (Event.Tenant t (Command.Destroy number)) body = None
+page_in_way w (Event.Tenant t (Command.Take number)) body = None
+page_in_way w (Event.Tenant t (Command.Give number place)) body = None
+page_in_way w (Event.Tenant t Command.Reap) body = None
+page_in_way w (Event.Tenant t Command.Report) body = None
+page_in_way w (Event.Admin (AdminCommand.Grant t)) body = None
+page_in_way w (Event.Admin (AdminCommand.TakeBack t u)) body = None
+page_in_way w (Event.Admin (AdminCommand.Reset t)) body = None
+page_in_way w (Event.Admin (AdminCommand.Move t u)) body = None
+page_in_way w (Event.Admin AdminCommand.Pool) body = None

@@ -7,7 +7,7 @@ use Rattle.words_core.specs.declared.event.LineFault.{LineFault}
 use Rattle.words_core.specs.declared.reply.Reply.{Reply}
 use Rattle.model_core.specs.Blocks.{Block, HasFrame, block}
 use Rattle.words_core.specs.Grammar.{reading_of}
-use Rattle.judge.specs.KnownMachine.{SeenMachine}
+use Rattle.promise_core.specs.State.{Known}
 use Rattle.check_core.specs.Finding.{page_in_way}
 use Rattle.check_core.specs.Forms.{◌>>=◌}
 use Rattle.check_core.specs.Gathered.{whole_of}
@@ -24,8 +24,8 @@ pub record IsFirstShared (a b : Block) (frame : ℕ) : Type 0 where
 
 -- `taken` has the live page block that shares a frame with the reply's block, if there is one, and the first frame that both
 -- share
-pub record IsInWay (x : SeenMachine) (event : Event) (body : Body) (taken : Option TakenFrame) : Type 0 where
-  pub page : option_map (λ found. found.page) taken ≡ page_in_way x event body
+pub record IsInWay (w : Known) (event : Event) (body : Body) (taken : Option TakenFrame) : Type 0 where
+  pub page : option_map (λ found. found.page) taken ≡ page_in_way w event body
   pub frame : (t k f : ℕ) → event ≡ Event.Tenant t (Command.Alloc k) → body ≡ Body.Frame f
       → IfSome taken (λ found. IsFirstShared (block f k) found.page found.frame)
 
@@ -40,8 +40,8 @@ answer_read asked told =
     event_read (reading_of (without_line_feed asked)) >>= (λ event.
     (whole_of MOST_TEXT_BYTES told >>= answer_of) >>= (λ reply. Some (event, reply)))
 
--- if the line and the reply were read as an event and a reply of one line, the live page block in the way is noted; otherwise the
--- note is unchanged
-abbrev pub IsNoted : (asked told : List ℕ) → SeenMachine → (old new : Option TakenFrame) → Type 0
-IsNoted asked told x old new =
-    MatchOption (answer_read asked told) (new ≡ old) (λ read. IsInWay x read.0 read.1.body new)
+-- if the line and the reply were read as an event and a reply of one line, and `w` is what is known before the reply, the live
+-- page block in the way is noted; otherwise the note is unchanged
+abbrev pub IsNoted : (asked told : List ℕ) → Known → (old new : Option TakenFrame) → Type 0
+IsNoted asked told w old new =
+    MatchOption (answer_read asked told) (new ≡ old) (λ read. IsInWay w read.0 read.1.body new)

@@ -27,6 +27,8 @@ pub struct Shown {
 }
 
 impl Shown {
+    ghost use Rattle.promise_core.specs.State.{Known};
+    ghost use Rattle.judge.specs.KnownMachine.{ShowsKnown};
     ghost use Rattle.check_core.specs.Taken.{IsNoted};
 
     /// Returns a value with no line and no reply.
@@ -48,8 +50,9 @@ impl Shown {
     pub fn look_for_taken(&mut self, machine: &KnownMachine)
         ensures line { self.new.line ≡ self.old.line }
         ensures reply { self.new.reply ≡ self.old.reply }
-        ensures taken { (asked told : List ℕ) → Gathers MOST_PART_BYTES asked self.old.line → Gathers MOST_TEXT_BYTES told self.old.reply
-            → IsNoted asked told machine.now self.old.taken self.new.taken }
+        ensures taken { (asked told : List ℕ) (w : Known) → Gathers MOST_PART_BYTES asked self.old.line
+            → Gathers MOST_TEXT_BYTES told self.old.reply → ShowsKnown machine.now w
+            → IsNoted asked told w self.old.taken self.new.taken }
     {
         let Ok(Some(event)) = reading(&self.line) else {
             return;

@@ -6,6 +6,8 @@ ghost use Rattle.words_core.specs.Requests.{body_of_answer};
 ghost use Rattle.words_core.specs.declared.event.Command.{Command};
 ghost use Rattle.words_core.specs.declared.event.Event.{Event};
 ghost use Rattle.words_core.specs.declared.reply.Body.{Body};
+ghost use Rattle.promise_core.specs.State.{Known};
+ghost use Rattle.judge.specs.KnownMachine.{ShowsKnown};
 ghost use Rattle.check_core.specs.Finding.{page_in_way};
 ghost use Rattle.check_core.specs.Taken.{IsFirstShared};
 
@@ -26,7 +28,8 @@ pub struct TakenFrame {
 /// Returns the tenant's first live page block that shares a frame with the page block of this answer, and the first frame that
 /// both share. Returns `None` if there is no such live block, or if `answer` does not allocate a page block for `event`.
 pub fn taken_frame(machine: &KnownMachine, event: &Event, answer: &Answer<'_>) -> Option<TakenFrame>
-    ensures page { option_map (λ taken. taken.page) result ≡ page_in_way machine.now event.now (body_of_answer answer.now) }
+    ensures page { (w : Known) → ShowsKnown machine.now w
+        → option_map (λ taken. taken.page) result ≡ page_in_way w event.now (body_of_answer answer.now) }
     // The frame is the first one that both blocks share.
     ensures frame { (t k f : ℕ) → event.now ≡ Event.Tenant t (Command.Alloc k) → body_of_answer answer.now ≡ Body.Frame f
         → IfSome result (λ taken. IsFirstShared (block f k) taken.page taken.frame) }
