@@ -18,7 +18,7 @@ use Rattle.promise_core.specs.State.{Known}
 use Rattle.check_core.specs.declared.finding.Breach.{Breach}
 use Rattle.check_core.specs.declared.finding.Finding.TheVariants.{Broken, Kept}
 use Rattle.check_core.specs.declared.gathered.Gathered.{Gathered}
-use Rattle.check_core.specs.Checking.{ComesToAdd, HasGathered, IsBreachAt, IsLineOrNone}
+use Rattle.check_core.specs.Checking.{ComesToAdd, HasGathered, IsBreachAt, IsKnownAfter, IsLineOrNone}
 use Rattle.check_core.specs.declared.shown.TheConstants.{MOST_TEXT_BYTES}
 use Rattle.check_core.specs.Forms.{◌>>=◌}
 use Rattle.check_core.specs.Gathered.{whole_of}
@@ -103,6 +103,12 @@ goes_on line at lines reading readings bytes w after is same =
     (λ next. finding (line + 1) (at + lines_to reading w) readings (after_lines (lines_to reading w) bytes) next)) is
     ∙ ap (λ n. finding (line + 1) (at + n) readings (after_lines n bytes) after) (sym same)
 
+-- if the reply to a line is allowed, what is known after the later lines is known after the lines from this one on
+pub known_later : (lines : ℕ) (reading : Line) (readings : List Line) (bytes : List ℕ) (w after end : Known) → verdict_at reading bytes w ≡ Ok after
+    → lines ≡ lines_to reading w → IsKnownAfter readings (after_lines lines bytes) after end → IsKnownAfter (reading ∷ readings) bytes w end
+known_later lines reading readings bytes w after end is same known =
+    (after, is, subst (λ n. IsKnownAfter readings (after_lines n bytes) after end) same known)
+
 pub breaks : (line at : ℕ) (promise : Promise) (reading : Line) (readings : List Line) (bytes : List ℕ) (w : Known) → verdict_at reading bytes w ≡ Err promise
     → finding line at (reading ∷ readings) bytes w ≡ Broken (record { line = line + 1; reply = at + 1; promise = promise })
 breaks line at promise reading readings bytes w is =
@@ -123,25 +129,32 @@ ends_broken line at ask (b ∷ tell) w none ended = ap (λ (bytes : List ℕ). f
 
 -- The parts `asked` and `told` of the two texts have been read. The finding for the whole texts is the finding for the bytes that
 -- follow these parts, if it begins with the state `now` and the line numbers `line` and `at`. If memory may run out while
--- these bytes are checked, it may run out while the whole texts are checked.
+-- these bytes are checked, it may run out while the whole texts are checked. What is known after these bytes is known after the
+-- whole texts.
 abbrev pub IsBehind : (w : Known) (asked told : List ℕ) (line at : ℕ) (trace : Source) (now : Known) → Type 0
 IsBehind w asked told line at trace now = (more later : List ℕ) → MayFollow trace more
     → (finding_of w (asked ++ more) (told ++ later) ≡ finding line at (readings_of more) later now)
     × (ComesToAdd (readings_of more) later now → ComesToAdd (readings_of (asked ++ more)) (told ++ later) w)
+    × ((end : Known) → IsKnownAfter (readings_of more) later now end → IsKnownAfter (readings_of (asked ++ more)) (told ++ later) w end)
 
 -- what `IsBehind` says of the bytes that follow `asked` and `told` also holds if these bytes begin with `part` and `answer`
 pub behind_parts : {now : Known} {line at : ℕ} {old new : Source} (w : Known) (asked told part answer : List ℕ) → IsBehind w asked told line at old now
     → HasGiven old new part → (more later : List ℕ) → MayFollow new more
     → (finding_of w ((asked ++ part) ++ more) ((told ++ answer) ++ later) ≡ finding line at (readings_of (part ++ more)) (answer ++ later) now)
     × (ComesToAdd (readings_of (part ++ more)) (answer ++ later) now → ComesToAdd (readings_of ((asked ++ part) ++ more)) ((told ++ answer) ++ later) w)
+    × ((end : Known) → IsKnownAfter (readings_of (part ++ more)) (answer ++ later) now end
+    → IsKnownAfter (readings_of ((asked ++ part) ++ more)) ((told ++ answer) ++ later) w end)
 behind_parts w asked told part answer is given more later may =
-    let (found, adds) = is (part ++ more) (answer ++ later) (follows given more may) in
+    let (found, adds, knows) = is (part ++ more) (answer ++ later) (follows given more may) in
     let asks : (asked ++ part) ++ more ≡ asked ++ (part ++ more) = append_assoc asked part more in
     let tells : (told ++ answer) ++ later ≡ told ++ (answer ++ later) = append_assoc told answer later in (
       (λ i. finding_of w (asks i) (tells i)) ∙ found,
       λ more_adds.
           subst (λ bytes. ComesToAdd (readings_of ((asked ++ part) ++ more)) bytes w) (sym tells)
           (subst (λ bytes. ComesToAdd (readings_of bytes) (told ++ (answer ++ later)) w) (sym asks) (adds more_adds)),
+      λ end known.
+          subst (λ bytes. IsKnownAfter (readings_of ((asked ++ part) ++ more)) bytes w end) (sym tells)
+          (subst (λ bytes. IsKnownAfter (readings_of bytes) (told ++ (answer ++ later)) w end) (sym asks) (knows end known)),
     )
 
 -- ---- the line and the reply of a breach
@@ -156,8 +169,8 @@ has_reply (Err fault) bytes w promise is = tt
 -- `asked ++ part`, and at reply line `at + 1`, it is a breach at `part`.
 pub breach_at : {now : Known} {line at : ℕ} (trace : Source) (w : Known) (asked told part answer : List ℕ) (breach : Breach) (readings : List Line)
     → IsBehind w asked told line at trace now → lines_at at told ≡ Some (told, []) → readings_of part ≡ readings → breach.line ≡ line + length readings
-    → breach.reply ≡ at + 1 → IsLineOrNone readings → IsBreachAt w breach (asked ++ part) (told ++ answer) part answer
-breach_at {line = line} {at = at} trace w asked told part answer breach readings behind whole read number reply one =
+    → breach.reply ≡ at + 1 → IsLineOrNone readings → IsBreachAt w now breach (asked ++ part) (told ++ answer) part answer
+breach_at {now = now} {line = line} {at = at} trace w asked told part answer breach readings behind whole read number reply one =
     let size : length (readings_of part) ≡ length readings = ap length read in
     record {
       earlier = asked;
@@ -167,5 +180,7 @@ breach_at {line = line} {at = at} trace w asked told part answer breach readings
       kept = (λ i. finding_of w (sym (append-nil asked) i) (sym (append-nil told) i)) ∙ (behind [] [] (λ ended. refl)).0
           ∙ ap (λ n. Kept n) (let e : line ≡ breach.line - length (readings_of part) = omega (arith, size, number) in e);
       whole = ap (λ n. lines_at n told) (let e : breach.reply - 1 ≡ at = omega (arith, reply) in e) ∙ whole;
+      known = subst (λ bytes. IsKnownAfter (readings_of asked) bytes w now) (append-nil told)
+          (subst (λ bytes. IsKnownAfter (readings_of bytes) (told ++ []) w now) (append-nil asked) ((behind [] [] (λ ended. refl)).2 now refl));
       one = subst IsLineOrNone (sym read) one;
     }

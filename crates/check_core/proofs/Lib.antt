@@ -13,6 +13,7 @@ pub mod ReadingLemmas
 pub mod HeldLemmas
 pub mod Ending
 pub mod CheckLemmas
+pub mod StillKnown
 pub mod TakenLemmas
 pub mod TextLemmas
 pub mod CountLemmas

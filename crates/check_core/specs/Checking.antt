@@ -1,6 +1,6 @@
 -- The verdict on the reply to each line of a trace, how a check ends, what it shows, and when memory may run out. The reading of
 -- a line is its event or its fault, or `Ok None` for a blank line or a comment.
-use Rattle.std.specs.Prelude.{◌≡◌, ℕ, suc, ◌-◌, Bool, true, false, List, [], ◌∷◌, ◌++◌, length, Option, Some, None, Result, Ok, Err, ◌⊎◌}
+use Rattle.std.specs.Prelude.{◌≡◌, ℕ, suc, ◌-◌, Bool, true, false, List, [], ◌∷◌, ◌++◌, length, Option, Some, None, Result, Ok, Err, OnErr, ◌⊎◌}
 use Rattle.promise_core.specs.declared.promise.Promise.{Promise}
 use Rattle.words_core.specs.declared.event.Event.{Event}
 use Rattle.words_core.specs.declared.event.LineFault.{LineFault}
@@ -26,17 +26,19 @@ pub record HasGathered (lines : ℕ) (came : List ℕ) (text : Gathered MOST_TEX
 
 -- The verdict on the reply to a line with this reading, if `part` is what was read of the replies. The verdict does not depend on
 -- the bytes after `part`. If the reply is allowed, its lines are `part`, the verdict is their number, and the machine shows what
--- is known after the reply. Otherwise the verdict is the first promise that the reply breaks.
+-- is known after the reply. Otherwise the verdict is the first promise that the reply breaks, and the machine still shows what
+-- was known before the reply.
 abbrev pub IsLineVerdict : Result ℕ Promise → Result (Option Event) LineFault → List ℕ → Known → SeenMachine → Source → Type 0
 IsLineVerdict (Ok lines) reading part w new replies = (lines ≡ lines_to reading w) × (lines_at lines part ≡ Some (part, []))
     × ((after : Known) × ShowsKnown new after × ((more : List ℕ) → verdict_at reading (part ++ more) w ≡ Ok after))
 IsLineVerdict (Err promise) reading part w new replies =
-    (more : List ℕ) → MayFollow replies more → verdict_at reading (part ++ more) w ≡ Err promise
+    ((more : List ℕ) → MayFollow replies more → verdict_at reading (part ++ more) w ≡ Err promise) × ShowsKnown new w
 
--- The verdict on the text that was gathered as the reply to an event. It is None if this text is not a reply, and then the
--- machine still shows what was known before.
+-- The verdict on the text that was gathered as the reply to an event. It is None if this text is not a reply. If it is None or a
+-- broken promise, the machine still shows what was known before.
 abbrev pub IsTextVerdict : Option (Result (Unit {0}) Promise) → Event → Option Reply → Known → SeenMachine → Type 0
-IsTextVerdict (Some verdict) event found w new = (reply : Reply) × (found ≡ Some reply) × IsVerdict verdict (allowed event reply w) new
+IsTextVerdict (Some verdict) event found w new = (reply : Reply) × (found ≡ Some reply)
+    × IsVerdict verdict (allowed event reply w) new × OnErr verdict (ShowsKnown new w)
 IsTextVerdict None event found w new = (found ≡ None) × ShowsKnown new w
 
 -- the finding is `Kept` only if the trace and the replies have ended
@@ -52,16 +54,24 @@ IsLineOrNone (Err fault ∷ []) = Unit {0}
 IsLineOrNone (Ok None ∷ []) = ⊥
 IsLineOrNone (reading ∷ next ∷ readings) = ⊥
 
+-- the replies at the front of these bytes, to lines with these readings, are allowed from the state `w` on, and `now` is what is
+-- known after them
+abbrev pub IsKnownAfter : List (Result (Option Event) LineFault) → List ℕ → (w now : Known) → Type 0
+IsKnownAfter [] bytes w now = now ≡ w
+IsKnownAfter (reading ∷ readings) bytes w now = (after : Known) × (verdict_at reading bytes w ≡ Ok after)
+    × IsKnownAfter readings (after_lines (lines_to reading w) bytes) after now
+
 -- What was read of the trace ends with the line of the breach, and what was read of the replies ends with its reply. The replies
--- before this reply are exactly the allowed replies to the lines before this line. If the reply is left over after the last line,
--- `line` is empty.
-pub record IsBreachAt (w : Known) (breach : Breach) (asked told line reply : List ℕ) : Type 0 where
+-- before this reply are exactly the allowed replies to the lines before this line, and `now` is what is known after them. If the
+-- reply is left over after the last line, `line` is empty.
+pub record IsBreachAt (w now : Known) (breach : Breach) (asked told line reply : List ℕ) : Type 0 where
   pub earlier : List ℕ
   pub answers : List ℕ
   pub asked_is : asked ≡ earlier ++ line
   pub told_is : told ≡ answers ++ reply
   pub kept : finding_of w earlier answers ≡ Finding.Kept (breach.line - length (readings_of line))
   pub whole : lines_at (breach.reply - 1) answers ≡ Some (answers, [])
+  pub known : IsKnownAfter (readings_of earlier) answers w now
   pub one : IsLineOrNone (readings_of line)
 
 -- `asked` was read as a line of the trace, and `told` as its reply; both are shown as far as the buffers hold them
@@ -69,11 +79,12 @@ pub record HasRead (asked told : List ℕ) (shown : Shown) : Type 0 where
   pub line : Gathers MOST_PART_BYTES asked shown.line
   pub reply : Gathers MOST_TEXT_BYTES told shown.reply
 
--- if the finding is a breach, its line and its reply are shown
-abbrev pub ShowsFinding : Known → Finding → (asked told : List ℕ) → Shown → Type 0
-ShowsFinding w (Finding.Kept lines) asked told shown = Unit {0}
-ShowsFinding w (Finding.Broken breach) asked told shown =
-    (line : List ℕ) × (reply : List ℕ) × IsBreachAt w breach asked told line reply × HasRead line reply shown
+-- if the finding is a breach, its line and its reply are shown, and the property `Also` holds of this line, of this reply, and of
+-- what is known after the earlier lines and their replies
+abbrev pub ShowsFinding : Known → Finding → (asked told : List ℕ) → Shown → (Also : List ℕ → List ℕ → Known → Type 0) → Type 0
+ShowsFinding w (Finding.Kept lines) asked told shown Also = Unit {0}
+ShowsFinding w (Finding.Broken breach) asked told shown Also = (line : List ℕ) × (reply : List ℕ) × (now : Known)
+    × IsBreachAt w now breach asked told line reply × HasRead line reply shown × Also line reply now
 
 -- Why there is no finding: the reader of the trace failed (`unread` is true), the reader of the replies failed (`untold` is
 -- true), or neither failed, but memory ran out, and `short` holds.

@@ -22,7 +22,8 @@ use streams::{Feed, Stopped};
 /// if the trace or the replies cannot be read, or if memory runs out.
 ///
 /// If a reply is not allowed, `shown` holds the line of the trace and what was read as the reply to it. If replies are left over
-/// after the reply to the last line, `shown` holds the first line of these replies, and no line of the trace.
+/// after the reply to the last line, `shown` holds the first line of these replies, and no line of the trace. In both cases the
+/// state of `machine` is the one after the earlier replies, and `shown.taken` is unchanged.
 pub fn check<T: Feed, R: Feed>(
     machine: &mut KnownMachine,
     trace: &mut LineReader<T>,
@@ -32,11 +33,14 @@ pub fn check<T: Feed, R: Feed>(
     requires trace_fine { trace.old.failed ≡ false }
     requires replies_fine { replies.old.failed ≡ false }
     // `asked` and `told` are what was read of the trace and of the replies. All pairs of texts that begin with `asked` and `told`
-    // have the returned finding. If the finding is a breach, its line and its reply are shown.
+    // have the returned finding. If the finding is a breach, its line and its reply are shown, and the machine shows what is
+    // known after the earlier lines and their replies.
     ensures found { (asked : List ℕ) × (told : List ℕ) × HasGiven trace.old trace.new asked × HasGiven replies.old replies.new told
         × ((w : Known) → ShowsKnown machine.old w → IfOk result (λ finding. WhateverFollows trace.new replies.new asked told
         (λ trace replies. finding ≡ finding_of w trace replies)))
-        × ((w : Known) → ShowsKnown machine.old w → IfOk result (λ finding. ShowsFinding w finding asked told shown.new)) }
+        × ((w : Known) → ShowsKnown machine.old w → IfOk result (λ finding. ShowsFinding w finding asked told shown.new
+        (λ line reply now. ShowsKnown machine.new now))) }
+    ensures taken { shown.new.taken ≡ shown.old.taken }
     ensures kept { IfOk result (λ finding. IsKeptAtEnd finding trace.new replies.new) }
     // Memory runs out only if an allowed reply adds something and no earlier reply broke a promise.
     ensures end { IsEndedBy result trace.new.failed replies.new.failed ((asked : List ℕ) × (told : List ℕ)

@@ -1,6 +1,6 @@
 //! Judges the reply to one line.
 
-ghost use Rattle.std.specs.Prelude.{◌≡◌, ℕ, ◌+◌, ◌<◌, ◌≤◌, ◌^◌, List, [], ◌++◌, Option, Some, None, Ok, IfOk, false};
+ghost use Rattle.std.specs.Prelude.{◌≡◌, ℕ, ◌+◌, ◌<◌, ◌≤◌, ◌^◌, List, [], ◌++◌, Option, Some, None, Ok, IfOk, OnOk, false};
 ghost use Rattle.words_core.specs.declared.reply.Reply.{Reply};
 ghost use Rattle.promise_core.specs.State.{Known};
 ghost use Rattle.judge.specs.Adding.{IsAllowedAddition};
@@ -217,6 +217,8 @@ fn broken_by(
     refused: Option<(Addressee, Refusal)>,
 ) -> Result<Promise, Unchecked>
     ensures broken { (w : Known) → ShowsKnown machine.old w → IfOk result (λ promise. promise ≡ broken_by event.now refused w) }
+    // What is known stays the same, since even an allowed refusal changes nothing.
+    ensures still { (w : Known) → ShowsKnown machine.old w → OnOk result (ShowsKnown machine.new w) }
     ensures end { IsEndedBy result false false ⊥ }
 {
     let Some((addressee, refusal)) = refused else {

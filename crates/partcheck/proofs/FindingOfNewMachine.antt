@@ -1,12 +1,14 @@
 -- A finding on a new machine is sound, and its breach is shown.
-use Rattle.std.proofs.Common.{◌≡◌, ℕ, List, ◌++◌, Some, subst, sym}
+use Rattle.std.proofs.Common.{◌≡◌, ℕ, List, ◌++◌, Some, Result, Ok, Err, IfOk, refl, subst, sym}
 use Rattle.model_core.specs.declared.config.Config.{Config}
 use Rattle.model_core.specs.declared.limits.TheConstants.{MOST_CACHES}
+use Rattle.check_core.specs.declared.finding.Breach.{Breach}
 use Rattle.check_core.specs.declared.finding.Finding.{Finding}
 use Rattle.check_core.specs.declared.finding.Finding.TheVariants.{Kept, Broken}
+use Rattle.check_core.specs.declared.finding.Unchecked.{Unchecked}
 use Rattle.check_core.specs.declared.shown.Shown.{Shown}
 use Rattle.check_core.specs.declared.shown.TheConstants.{MOST_PART_BYTES, MOST_TEXT_BYTES}
-use Rattle.check_core.specs.Checking.{ShowsFinding}
+use Rattle.check_core.specs.Checking.{HasRead, ShowsFinding}
 use Rattle.check_core.specs.Finding.{finding_of}
 use Rattle.check_core.specs.Gathered.{Gathers}
 use Rattle.check_core.specs.Laws.{BrokenIsNotAllowed, KeptIsAllowed}
@@ -34,16 +36,27 @@ known_texts {told = told} IsSo asks tells so whole answers whole_is answers_is =
     let (later, alike, might) = known_rest tells answers answers_is in
     subst (λ xs. IsSo whole xs) (sym alike) (subst (λ xs. IsSo xs (told ++ later)) (sym same) (so more later may might))
 
--- if `shown` keeps its line and its reply, it still shows the finding
-pub still_shown : (w : Known) (finding : Finding) (asked told : List ℕ) (old new : Shown) → new.line ≡ old.line → new.reply ≡ old.reply
-    → ShowsFinding w finding asked told old → ShowsFinding w finding asked told new
-still_shown w (Kept lines) asked told old new line_is reply_is shows = tt
-still_shown w (Broken breach) asked told old new line_is reply_is (line, reply, is, read) = (
+-- If `shown` keeps its line and its reply, it still shows the finding. A property of a breach can be replaced by one that follows
+-- from it.
+pub still_shown : (w : Known) (finding : Finding) (asked told : List ℕ) (old new : Shown) (Also So : List ℕ → List ℕ → Known → Type 0)
+    → new.line ≡ old.line → new.reply ≡ old.reply
+    → ((breach : Breach) (line reply : List ℕ) (now : Known) → finding ≡ Broken breach → HasRead line reply old → Also line reply now → So line reply now)
+    → ShowsFinding w finding asked told old Also → ShowsFinding w finding asked told new So
+still_shown w (Kept lines) asked told old new Also So line_is reply_is follows shows = tt
+still_shown w (Broken breach) asked told old new Also So line_is reply_is follows (line, reply, now, is, read, also) = (
   line,
   reply,
+  now,
   is,
   record {
     line = subst (λ text. Gathers MOST_PART_BYTES line text) (sym line_is) read.line;
     reply = subst (λ text. Gathers MOST_TEXT_BYTES reply text) (sym reply_is) read.reply;
   },
+  follows breach line reply now refl read also,
 )
+
+-- a property of a finding can be replaced by one that follows from it
+pub found_so : (found : Result Finding Unchecked) (P Q : Finding → Type 0) → ((finding : Finding) → found ≡ Ok finding → P finding → Q finding)
+    → IfOk found P → IfOk found Q
+found_so (Ok finding) P Q follows so = follows finding refl so
+found_so (Err why) P Q follows so = tt

@@ -1,9 +1,13 @@
 //! Runs a check on a new machine.
 
-ghost use Rattle.std.specs.Prelude.{◌≡◌, ℕ, List, true, false, Some, IfOk, ◌⊎◌};
+ghost use Rattle.std.specs.Prelude.{◌≡◌, ℕ, List, true, false, Some, Ok, IfOk, ◌⊎◌};
 ghost use Rattle.model_core.specs.Booting.{is_bootable};
-ghost use Rattle.check_core.specs.Checking.{ComesToAdd, IsEndedBy, IsKeptAtEnd, ShowsFinding};
+ghost use Rattle.promise_core.specs.State.{Known};
+ghost use Rattle.judge.specs.KnownMachine.{ShowsKnown};
+ghost use Rattle.check_core.specs.declared.finding.Breach.{Breach};
+ghost use Rattle.check_core.specs.Checking.{ComesToAdd, HasRead, IsEndedBy, IsKeptAtEnd, ShowsFinding};
 ghost use Rattle.check_core.specs.Reading.{HasGiven, WhateverFollows, readings_of};
+ghost use Rattle.check_core.specs.Taken.{IsNoted};
 ghost use Rattle.partcheck.specs.Checked.{IsFindingOf, opening_of};
 
 use check_core::{Finding, LineReader, Shown, Unchecked, check, laws};
@@ -15,7 +19,9 @@ use streams::Feed;
 
 /// Checks the replies to a trace on a machine of these sizes, in which no superblock is granted at first. Returns `Err` if the
 /// trace or the replies cannot be read, or if memory runs out. If a reply is not allowed, `shown` has the line and the reply, as
-/// after [`check`]. It also has a live page block that overlaps the page block of the reply, if there is one.
+/// after [`check`]. If the line is an event, and the reply is a reply of one line, `shown.taken` becomes the tenant's first live
+/// page block that overlaps the page block of the reply, with the first frame that both share, or `None` if no live block does.
+/// Otherwise `shown.taken` is unchanged.
 pub fn run<T: Feed, R: Feed>(
     alloc: Global,
     config: Config,
@@ -27,10 +33,12 @@ pub fn run<T: Feed, R: Feed>(
     requires trace_fine { trace.old.failed ≡ false }
     requires replies_fine { replies.old.failed ≡ false }
     // `asked` is the text that was read of the trace, and `told` is the text that was read of the replies. All texts that begin
-    // with these have this finding, and it is true of them. If it is a breach, `shown` has the line and the reply of the breach.
+    // with these have this finding, and it is true of them. If it is a breach, `shown` has the line and the reply of the breach,
+    // and a live page block in the way of the reply is noted, by what is known after the earlier lines and their replies.
     ensures found { (asked : List ℕ) × (told : List ℕ) × HasGiven trace.old trace.new asked × HasGiven replies.old replies.new told
         × IfOk result (λ finding. WhateverFollows trace.new replies.new asked told (IsFindingOf config finding))
-        × IfOk result (λ finding. ShowsFinding (opening_of config) finding asked told shown.new) }
+        × IfOk result (λ finding. ShowsFinding (opening_of config) finding asked told shown.new
+        (λ line reply now. IsNoted line reply now shown.old.taken shown.new.taken)) }
     ensures kept { IfOk result (λ finding. IsKeptAtEnd finding trace.new replies.new) }
     // If the texts of the trace and of the replies are known, they have this finding, and it is true of them.
     ensures known { (asked told : List ℕ) → trace.old.left ≡ Some asked → replies.old.left ≡ Some told
@@ -61,6 +69,8 @@ pub fn run<T: Feed, R: Feed>(
 fn note_taken(found: &Result<Finding, Unchecked>, machine: &KnownMachine, shown: &mut Shown)
     ensures line { shown.new.line ≡ shown.old.line }
     ensures reply { shown.new.reply ≡ shown.old.reply }
+    ensures taken { (breach : Breach) (asked told : List ℕ) (w : Known) → found.now ≡ Ok (Finding.Broken breach)
+        → HasRead asked told shown.old → ShowsKnown machine.now w → IsNoted asked told w shown.old.taken shown.new.taken }
 {
     if let Ok(Finding::Broken(_)) = found {
         shown.look_for_taken(machine);

@@ -4,17 +4,18 @@ use Rattle.words_core.specs.declared.event.Event.{Event}
 use Rattle.words_core.specs.declared.event.LineFault.{LineFault}
 use Rattle.promise_core.specs.declared.promise.Promise.{Promise}
 use Rattle.check_core.specs.declared.finding.Breach.{Breach}
-use Rattle.check_core.specs.Checking.{ComesToAdd, IsLineVerdict}
+use Rattle.check_core.specs.Checking.{ComesToAdd, IsKnownAfter, IsLineVerdict}
 use Rattle.check_core.specs.Finding.{finding}
 use Rattle.check_core.specs.Reading.{IsNextReading, readings_of}
-use Rattle.check_core.proofs.CheckLemmas.{behind_parts, breach_at, breaks, ends_broken, ends_kept, goes_on, has_reply, left_after}
+use Rattle.check_core.proofs.CheckLemmas.{behind_parts, breach_at, breaks, ends_broken, ends_kept, goes_on, has_reply, known_later, left_after}
 use Rattle.check_core.proofs.Ending.{adds_later, stopped_reading, stopped_telling}
 use Rattle.check_core.proofs.ReadingLemmas.{gives_more, gives_nothing, lines_more, none_behind, some_behind}
 use Rattle.check_core.proofs.checking.check.Goals as goal
 
 pub lines-init : goal.lines-init
 lines-init g c = record {
-  given = ([], [], gives_nothing _, gives_nothing _, λ w shows. (w, shows, λ more later may. (refl, λ adds. adds), refl));
+  given = ([], [], gives_nothing _, gives_nothing _, λ w shows. (w, shows, λ more later may. (refl, λ adds. adds, λ end known. known), refl));
+  taken = refl;
   trace_fine = c.requires.trace_fine;
   replies_fine = c.requires.replies_fine;
   lines = omega arith;
@@ -45,7 +46,7 @@ lines-preserved g c =
               after,
               shown,
               λ more later may.
-                  let (found, adds) = behind_parts w here.0 here.1 part.0 answer.0 behind part.1 more later may in
+                  let (found, adds, knows) = behind_parts w here.0 here.1 part.0 answer.0 behind part.1 more later may in
                   let verdict = is later in
                   let left = left_after c.in-Ok.lines answer.0 later lines in (
                     found ∙ ap (λ readings. finding c.lines.line c.lines.reply readings (answer.0 ++ later) now) (read more may)
@@ -54,10 +55,14 @@ lines-preserved g c =
                     λ adds_more. adds (subst (λ readings. ComesToAdd readings (answer.0 ++ later) now) (sym (read more may))
                         (adds_later c.in-Ok.lines c.in-Some.reading (readings_of more) (answer.0 ++ later) now after verdict count
                         (subst (λ bytes. ComesToAdd (readings_of more) bytes after) (sym left) adds_more))),
+                    λ end known. knows end (subst (λ readings. IsKnownAfter readings (answer.0 ++ later) now end) (sym (read more may))
+                        (known_later c.in-Ok.lines c.in-Some.reading (readings_of more) (answer.0 ++ later) now after end verdict count
+                        (subst (λ bytes. IsKnownAfter (readings_of more) bytes after end) (sym left) known))),
                   ),
               lines_more c.lines.reply c.in-Ok.lines here.1 answer.0 (answer.0, []) whole lines,
             ),
       );
+      taken = c.lines.invariant.taken;
       trace_fine = c.in_ok-reading.ensures.end.0;
       replies_fine = c.in_ok-lines.ensures.end.1;
       lines = omega (arith, c.lines.invariant.lines, less);
@@ -118,7 +123,7 @@ returns-in-Err-clause-found g c =
           λ more later may may_later. c.broken.ensures
           ∙ sym ((behind_parts w here.0 here.1 part.0 answer.0 behind part.1 more later may).0
           ∙ ap (λ readings. finding c.lines.line c.lines.reply readings (answer.0 ++ later) now) (read more may)
-          ∙ breaks c.lines.line c.lines.reply c.in-Err.promise c.in-Some.reading (readings_of more) (answer.0 ++ later) now (judged later may_later)),
+          ∙ breaks c.lines.line c.lines.reply c.in-Err.promise c.in-Some.reading (readings_of more) (answer.0 ++ later) now (judged.0 later may_later)),
       λ w shows.
           let (now, showing, behind, whole) = here.4 w shows in
           let judged = subst
@@ -128,10 +133,12 @@ returns-in-Err-clause-found g c =
           rw c.broken.ensures (
             part.0,
             answer.0,
+            now,
             breach_at c.lines.trace w here.0 here.1 part.0 answer.0 breach (c.in-Some.reading ∷ []) behind whole
                 (ap readings_of (sym (append-nil part.0)) ∙ read [] (λ ended. refl)) refl refl
-                (has_reply c.in-Some.reading (answer.0 ++ []) now c.in-Err.promise (judged [] (λ ended. refl))),
+                (has_reply c.in-Some.reading (answer.0 ++ []) now c.in-Err.promise (judged.0 [] (λ ended. refl))),
             record { line = part.3; reply = answer.3 },
+            judged.1,
           ),
     )
 
@@ -180,8 +187,10 @@ returns-else-branch-clause-found g c =
           rw c.broken-else-branch.ensures (
             part.0,
             answer.0,
+            now,
             breach_at c.lines.trace w here.0 here.1 part.0 answer.0 breach [] behind whole (ap readings_of none) (sym (add-zero c.lines.line)) refl tt,
             record { line = part.3; reply = answer.3 },
+            showing,
           ),
     )
 

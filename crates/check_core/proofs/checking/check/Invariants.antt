@@ -11,6 +11,7 @@ invariant-lines g l = record {
   given : (asked : List ℕ) × (told : List ℕ) × HasGiven l.fn.trace l.trace asked × HasGiven l.fn.replies l.replies told
       × ((w : Known) → ShowsKnown l.fn.machine w
       → (now : Known) × ShowsKnown l.machine now × IsBehind w asked told l.line l.reply l.trace now × (lines_at l.reply told ≡ Some (told, [])));
+  taken : l.shown.taken ≡ l.fn.shown.taken;
   trace_fine : l.trace.failed ≡ false;
   replies_fine : l.replies.failed ≡ false;
   lines : l.trace.room + l.line ≤ l.fn.trace.room;

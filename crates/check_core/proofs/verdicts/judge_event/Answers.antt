@@ -16,10 +16,14 @@ returns-then-not-branch-clause-judged g c =
     let come = c.in_ok-gather.ensures.come in (
       come.0,
       come.1,
-      λ w shown none more may.
-          let (ended, gone) = MatchBool-at_false _ _ c.if-not-branch.true (come.2 0 1 [] refl (none_come none)) in
-          no_reply_judged c.args.event.now (come.0 ++ more) w _ (none_there c.gather.new.replies 1 come.0 c.args.event.now w ended gone (omega arith) more may)
-          (rw (none_follows 1 come.0 more c.gather.new.replies ended gone may) refl),
+      λ w shown none. (
+        λ more may.
+            let (ended, gone) = MatchBool-at_false _ _ c.if-not-branch.true (come.2 0 1 [] refl (none_come none)) in
+            no_reply_judged c.args.event.now (come.0 ++ more) w _
+            (none_there c.gather.new.replies 1 come.0 c.args.event.now w ended gone (omega arith) more may)
+            (rw (none_follows 1 come.0 more c.gather.new.replies ended gone may) refl),
+        shown,
+      ),
       come.3,
     )
 

@@ -15,9 +15,12 @@ returns-then-not-branch-clause-judged g c =
     let come = c.in_ok-gather.ensures.come in (
       come.0,
       come.1,
-      λ w kept shown none more may.
-          let (ended, gone) = MatchBool-at_false _ _ c.if-not-branch.true (come.2 0 1 [] refl (none_come none)) in
-          rw (none_follows 1 come.0 more c.gather.new.replies ended gone may) refl,
+      λ w kept shown none. (
+        λ more may.
+            let (ended, gone) = MatchBool-at_false _ _ c.if-not-branch.true (come.2 0 1 [] refl (none_come none)) in
+            rw (none_follows 1 come.0 more c.gather.new.replies ended gone may) refl,
+        shown,
+      ),
       come.3,
     )
 
@@ -39,10 +42,13 @@ returns-else-is_text-clause-judged g c =
     let given = c.in_ok-gather.ensures.come in (
       given.0,
       given.1,
-      λ w kept shown none more may.
-          let come = MatchBool-at_true _ _ c.if-not-branch.false (given.2 0 1 [] refl (none_come none)) in
-          let told : reports_fault c.args.fault (given.0 ++ more) ≡ false =
-          rw (stand_first come more) (ap (bytes_eq given.0) (sym c.write_answer_to-len.ensures.text) ∙ sym (c.is_text.ensures given.0 come.gathers) ∙ c.if-is_text.false) in
-          rw told refl,
+      λ w kept shown none. (
+        λ more may.
+            let come = MatchBool-at_true _ _ c.if-not-branch.false (given.2 0 1 [] refl (none_come none)) in
+            let told : reports_fault c.args.fault (given.0 ++ more) ≡ false =
+            rw (stand_first come more) (ap (bytes_eq given.0) (sym c.write_answer_to-len.ensures.text) ∙ sym (c.is_text.ensures given.0 come.gathers) ∙ c.if-is_text.false) in
+            rw told refl,
+        shown,
+      ),
       given.3,
     )

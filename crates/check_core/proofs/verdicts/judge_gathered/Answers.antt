@@ -14,7 +14,7 @@ returns-in_err-judge_text-clause-end c =
 
 pub returns-in-Some-Ok-clause-judged : goal.returns-in-Some-Ok-clause-judged
 returns-in-Some-Ok-clause-judged c w came replies shown count come told =
-    let (reply, found, after) = subst (λ (verdict : Option (Result Unit Promise)). IsTextVerdict verdict c.args.event.now (text_read came) w c.judge_text.new.machine)
+    let (reply, found, after, still) = subst (λ (verdict : Option (Result Unit Promise)). IsTextVerdict verdict c.args.event.now (text_read came) w c.judge_text.new.machine)
     (c.in-Some-Ok.is ∙ ap (λ (v : Result Unit Promise). Some v) c.in-Some-Ok.field-0-is) (c.in_ok-judge_text.ensures.judged w came shown come.gathers) in (
       count,
       come.are,
@@ -27,16 +27,21 @@ returns-in-Some-Ok-clause-judged c w came replies shown count come told =
 
 pub returns-in-Some-Err-clause-judged : goal.returns-in-Some-Err-clause-judged
 returns-in-Some-Err-clause-judged c w came replies shown count come told =
-    let (reply, found, broken) = subst (λ (verdict : Option (Result Unit Promise)). IsTextVerdict verdict c.args.event.now (text_read came) w c.judge_text.new.machine)
-    (c.in-Some-Err.is ∙ ap (λ (v : Result Unit Promise). Some v) c.in-Some-Err.field-0-is) (c.in_ok-judge_text.ensures.judged w came shown come.gathers) in
-    λ more may. by_reply c.args.event.now (came ++ more) w (Some reply) (read_there c.args.event.now w come count more ∙ found) ∙ broken
-    ∙ sym (ap (λ (p : Promise). Err p) c.in-Some-Err.promise-is)
+    let (reply, found, broken, still) = subst (λ (verdict : Option (Result Unit Promise)). IsTextVerdict verdict c.args.event.now (text_read came) w c.judge_text.new.machine)
+    (c.in-Some-Err.is ∙ ap (λ (v : Result Unit Promise). Some v) c.in-Some-Err.field-0-is) (c.in_ok-judge_text.ensures.judged w came shown come.gathers) in (
+      λ more may.
+          by_reply c.args.event.now (came ++ more) w (Some reply) (read_there c.args.event.now w come count more ∙ found) ∙ broken
+          ∙ sym (ap (λ (p : Promise). Err p) c.in-Some-Err.promise-is),
+      still,
+    )
 
 pub returns-in_ok-broken_by-in-None-clause-judged : goal.returns-in_ok-broken_by-in-None-clause-judged
 returns-in_ok-broken_by-in-None-clause-judged c w came replies shown count come told =
     let (none, still) = subst (λ (verdict : Option (Result Unit Promise)). IsTextVerdict verdict c.args.event.now (text_read came) w c.judge_text.new.machine)
-    c.in-None.is (c.in_ok-judge_text.ensures.judged w came shown come.gathers) in
-    λ more may.
-    let gone = read_there c.args.event.now w come count more ∙ none in
-    no_reply_judged c.args.event.now (came ++ more) w _ gone (c.in_ok-broken_by-in-None.ensures.broken w still
-    ∙ ap (λ refused. broken_by c.args.event.now refused w) (told more (ap (λ n. reply_in n (came ++ more)) count ∙ gone)))
+    c.in-None.is (c.in_ok-judge_text.ensures.judged w came shown come.gathers) in (
+      λ more may.
+          let gone = read_there c.args.event.now w come count more ∙ none in
+          no_reply_judged c.args.event.now (came ++ more) w _ gone (c.in_ok-broken_by-in-None.ensures.broken w still
+          ∙ ap (λ refused. broken_by c.args.event.now refused w) (told more (ap (λ n. reply_in n (came ++ more)) count ∙ gone))),
+      c.in_ok-broken_by-in-None.ensures.still w still,
+    )

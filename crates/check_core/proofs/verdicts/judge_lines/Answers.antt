@@ -19,13 +19,16 @@ returns-then-not-branch-clause-judged g c =
     let given = c.in_ok-gather.ensures.come in (
       given.0,
       given.1,
-      λ w came shown count first more may.
-          let (ended, gone) = MatchBool-at_false _ _ c.if-not-branch.true (given.2 1 (suc c.args.more) came (omega arith) first) in
-          no_reply_judged c.args.event.now ((came ++ given.0) ++ more) w _
-          (none_there c.gather.new.replies (suc c.args.more) (came ++ given.0) c.args.event.now w ended gone (omega (arith, count)) more may)
-          (c.in_ok-broken_by.ensures.broken w shown ∙ ap (λ refused. broken_by c.args.event.now refused w)
-          (c.refusal_in-refused.ensures came first.gathers
-          ∙ ap refusal_read (sym (read_first first (given.0 ++ more)) ∙ ap (reply_in 1) (sym (append_assoc came given.0 more))))),
+      λ w came shown count first. (
+        λ more may.
+            let (ended, gone) = MatchBool-at_false _ _ c.if-not-branch.true (given.2 1 (suc c.args.more) came (omega arith) first) in
+            no_reply_judged c.args.event.now ((came ++ given.0) ++ more) w _
+            (none_there c.gather.new.replies (suc c.args.more) (came ++ given.0) c.args.event.now w ended gone (omega (arith, count)) more may)
+            (c.in_ok-broken_by.ensures.broken w shown ∙ ap (λ refused. broken_by c.args.event.now refused w)
+            (c.refusal_in-refused.ensures came first.gathers
+            ∙ ap refusal_read (sym (read_first first (given.0 ++ more)) ∙ ap (reply_in 1) (sym (append_assoc came given.0 more))))),
+        c.in_ok-broken_by.ensures.still w shown,
+      ),
       given.3,
     )
 

@@ -1,10 +1,11 @@
-use Rattle.std.proofs.Common.{Option, Some, refl, sym, subst}
+use Rattle.std.proofs.Common.{Option, Some, Ok, refl, ap, sym, subst}
 use Rattle.words_core.specs.Requests.{reply_to}
 use Rattle.words_core.specs.declared.reply.Reply.{Reply}
 use Rattle.check_core.specs.Checking.{IsTextVerdict}
 use Rattle.check_core.specs.Tables.{table_of}
 use Rattle.check_core.proofs.CheckLemmas.{as_answer, as_table, read_so}
 use Rattle.check_core.proofs.Ending.{ran_out}
+use Rattle.check_core.proofs.StillKnown.{broken_keeps}
 use Rattle.check_core.proofs.verdicts.judge_text.Goals as goal
 
 pub returns-in_err-judge-in-Some-read_answer-clause-end : goal.returns-in_err-judge-in-Some-read_answer-clause-end
@@ -22,6 +23,7 @@ returns-in_ok-judge-in-Some-read_answer-clause-judged c w came shown gathers =
       reply,
       read_so came c.in-Some.bytes.now (Some reply) (c.in-Some.ensures came gathers) (as_answer c.in-Some.bytes.now reply c.in-Some-read_answer.ensures.exact),
       c.in_ok-judge-in-Some-read_answer.ensures.judged w shown,
+      broken_keeps _ _ _ w (λ promise is. c.in_ok-judge-in-Some-read_answer.ensures.broken promise (ap (λ verdict. Ok verdict) is)) shown,
     )
 
 pub returns-in-None-clause-judged : goal.returns-in-None-clause-judged

@@ -1,9 +1,11 @@
-use Rattle.std.proofs.Common.{[], inl, inr, refl}
+use Rattle.std.proofs.Common.{[], Ok, inl, inr, refl, ap, subst, ◌∙◌}
 use Rattle.std.proofs.lemmas.Result.{IfOk-from_err, IfOk-weaker}
+use Rattle.check_core.specs.declared.finding.Finding.{Finding}
+use Rattle.check_core.specs.Taken.{IsNoted}
 use Rattle.check_core.proofs.Ending.{ended_so, ran_out}
 use Rattle.check_core.proofs.ReadingLemmas.{gives_nothing}
 use Rattle.partcheck.specs.Checked.{IsFindingOf, opening_of}
-use Rattle.partcheck.proofs.FindingOfNewMachine.{finds, known_texts, still_shown}
+use Rattle.partcheck.proofs.FindingOfNewMachine.{finds, found_so, known_texts, still_shown}
 use Rattle.partcheck.proofs.run.run.Goals as goal
 
 pub returns-in_err-machine-clause-found : goal.returns-in_err-machine-clause-found
@@ -23,8 +25,12 @@ returns-clause-found g c =
       IfOk-weaker c.check-found.result _ _ (λ finding so more later may might.
           finds c.kept_is_allowed.ensures c.broken_is_not_allowed.ensures c.args.config finding _ _ (so more later may might))
           (given.4 (opening_of c.args.config) c.in_ok-machine.ensures),
-      IfOk-weaker c.check-found.result _ _ (λ finding so. still_shown (opening_of c.args.config) finding given.0 given.1 c.check-found.new.shown c.note_taken.new.shown
-          c.note_taken.ensures.line c.note_taken.ensures.reply so) (given.5 (opening_of c.args.config) c.in_ok-machine.ensures),
+      found_so c.check-found.result _ _ (λ finding is so.
+          still_shown (opening_of c.args.config) finding given.0 given.1 c.check-found.new.shown c.note_taken.new.shown _ _
+          c.note_taken.ensures.line c.note_taken.ensures.reply
+          (λ breach line reply now broken read shows. subst (λ old. IsNoted line reply now old c.note_taken.new.shown.taken) c.check-found.ensures.taken
+          (c.note_taken.ensures.taken breach line reply now (is ∙ ap (λ (f : Finding). Ok f) broken) read shows)) so)
+          (given.5 (opening_of c.args.config) c.in_ok-machine.ensures),
     )
 
 pub returns-clause-known : goal.returns-clause-known
