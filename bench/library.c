@@ -306,16 +306,17 @@ static uint64_t sum_of_more(uint64_t before, const struct call *call, uint32_t p
 
 /* Writes a line for each direct call: its kind, its status, the place that it names or takes, how many bytes it takes or gives
  * back, and a hash. The hash is of these bytes, of all else that the call returns, and of what more calls at the place
- * return. */
+ * return. If one of these gives memory back, a later call that took memory in plan() may be refused here. */
 static void write_answers(uint8_t **blocks) {
     for (size_t i = 0; i < call_count; i++) {
         const struct call *call = &calls[i];
         struct results results;
         memset(&results, 0xee, sizeof results);
         memset(buffer, 0, PARTMEM_MOST_BYTES);
-        uint64_t all = call->deed == GIVE ? sum(0, blocks[call->block], call->size) : 0;
+        const int has_block = call->deed == GIVE && blocks[call->block] != NULL;
+        uint64_t all = has_block ? sum(0, blocks[call->block], call->size) : 0;
         uint32_t status = run_direct(call, &results), place = place_of(call, &results);
-        if (call->deed == TAKE) {
+        if (call->deed == TAKE && status == PARTMEM_DONE) {
             blocks[call->block] = results.lent.at;
             all = sum(all, results.lent.at, call->size);
             store(results.lent.at, call, 1);
