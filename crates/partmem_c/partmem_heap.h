@@ -97,9 +97,10 @@ typedef struct partmem_heap {
     uint16_t run[PARTMEM_MOST_SUPERBLOCKS];
 } partmem_heap;
 
-/* Initialises the heap of a tenant. `config` is NULL for the default classes and no runs. Returns BAD_CONFIG if `sizes` or
- * `count` is not as partmem_heap_config says. With runs, returns BAD_MEMORY if the tenant has no slot, or if its slots are not 0,
- * 1, 2 .. with superblocks that follow each other in RAM. */
+/* Initialises the heap of a tenant. `config` is NULL for the default classes and no runs. Returns NO_MACHINE or NO_TENANT as a
+ * direct call does; then BAD_CONFIG if `sizes` or `count` is not as partmem_heap_config says. With runs, then returns BAD_MEMORY
+ * if the tenant has no slot, or if its slots are not 0, 1, 2 .. with superblocks that follow each other in RAM. If it does not
+ * return DONE, the heap is all 0. */
 PARTMEM_CHECKED partmem_status partmem_heap_init(partmem_heap *heap, partmem_tenant tenant, const partmem_heap_config *config);
 
 /* Allocates at least `bytes` bytes, and at least 1 byte, at an address that is a multiple of 16. The bytes may have any values.
