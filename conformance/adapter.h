@@ -1,7 +1,7 @@
 /* Connects your own allocator to the test: write the ten functions below and link them with adapter.c, which reads the lines of
  * docs/traces.md and writes the replies.
  *
- *     cc -O2 -o mine conformance/adapter.c mine.c && conformance/check --pages ./mine
+ *     cc -O2 -Iconformance -o mine conformance/adapter.c mine.c && conformance/check --pages ./mine
  *
  * A superblock has 2^order frames of FRAME_BYTES bytes. Slot u of a tenant has 2^order frames, of which the first is frame
  * u * 2^order. Each byte of a tenant has a number, its place: frame f has FRAME_BYTES places, of which the first is
@@ -59,7 +59,8 @@ enum reply reset(unsigned tenant, unsigned *superblocks);
  * POOL_EMPTY. */
 enum reply move(unsigned tenant, uint32_t slot, unsigned *superblock);
 
-/* Allocates a block of 2^order frames and stores its first frame. Refusals: BAD_ORDER, NO_FRAMES. */
+/* Allocates a block of 2^order frames and stores its first frame, a multiple of 2^order. Refusals: BAD_ORDER if a slot has fewer
+ * frames, then NO_FRAMES. */
 enum reply alloc(unsigned tenant, uint32_t order, uint32_t *frame);
 
 /* Frees the block that begins at the frame, and stores its order. Refusal: NOT_A_BLOCK. */

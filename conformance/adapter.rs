@@ -62,7 +62,8 @@ pub trait Allocator {
     /// Moves the slot, with all its bytes, to a superblock that nobody owns. Returns that superblock. Refusals: NoSlot,
     /// PoolEmpty.
     fn relocate(&mut self, tenant: u32, slot: u32) -> Result<u32, Refusal>;
-    /// Allocates a block of `2^order` frames. Returns its first frame. Refusals: BadOrder, NoFrames.
+    /// Allocates a block of `2^order` frames. Returns its first frame, a multiple of `2^order`. Refusals: BadOrder if a slot has
+    /// fewer frames, then NoFrames.
     fn alloc(&mut self, tenant: u32, order: u32) -> Result<u32, Refusal>;
     /// Frees the block that begins at the frame. Returns its order. Refusal: NotABlock.
     fn free(&mut self, tenant: u32, frame: u32) -> Result<u32, Refusal>;

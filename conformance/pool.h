@@ -1,7 +1,7 @@
 /* Connects your own allocator of blocks, which has one pool and no tenants, to the test: write the four functions below and link
  * them with pool.c and adapter.c.
  *
- *     cc -O2 -o mine conformance/adapter.c conformance/pool.c mine.c && conformance/check --pages ./mine
+ *     cc -O2 -Iconformance -o mine conformance/adapter.c conformance/pool.c mine.c && conformance/check --pages ./mine
  *
  * pool.c makes a pool, with its own zeroed memory, for each slot that a tenant holds. It handles grants, take-backs, resets and
  * moves itself, and checks the places of reads and writes. In pool.c a superblock is only a number. So the test is about which

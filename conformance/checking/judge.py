@@ -96,7 +96,7 @@ class Judge:
         found = PROMISE.match(said)
         if found is None:
             raise Unusable(f'{self.partcheck} prints no finding: {visible(said)}')
-        return Breach(found[2], said, line=int(found[1]))
+        return Breach(found[2], said[:found.start(2)] + said[found.end():], line=int(found[1]))
 
     def compared_with_partmem(self, run):
         ran = self.run_tool(self.partmem, (0,), run.sizes, input=run.trace().encode('latin-1'))
@@ -114,7 +114,7 @@ class Judge:
         pairs = zip(run.told(tenant) + ['nothing'], other.told(tenant) + ['nothing'])
         for at, (one, two) in enumerate(pairs, 1):
             if one != two:
-                words = f"reply line {at} is '{visible(one)}' here, and '{visible(two)}' when its own list is run {where}"
+                words = f"its reply line {at} is '{visible(one)}' here, and '{visible(two)}' when its own list is run {where}"
                 return Case(run, Breach('Alone', words, tenant, line_of_reply(run, tenant, at)))
         return None
 

@@ -128,6 +128,7 @@ def kept(options, count, noun, reached):
     refused = ', '.join(f'{name} {times}' for name, times in sorted(reached.refused.items(), key=lambda item: -item[1]))
     held = ', '.join(counted(most[noun], noun[:-1]) for noun in ('slots', 'frames', 'blocks', 'objects') if most[noun])
     missing = ', '.join(not_reached(options, reached))
-    return (f'{done}; orders {orders[0]} to {orders[-1]}, up to {counted(reached.tenants, "tenant")}, '
+    of_orders = f'orders {orders[0]} to {orders[-1]}' if orders[1:] else f'order {orders[0]}'
+    return (f'{done}; {of_orders}, up to {counted(reached.tenants, "tenant")}, '
             f'the widest machine {" ".join(words_of(reached.widest))}; '
             f'one tenant had up to {held or "nothing"}; refused: {refused or "nothing"}; not reached: {missing or "nothing"}')

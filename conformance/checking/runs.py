@@ -216,8 +216,8 @@ def names_in(words):
 
 def replayed(programs, sizes, exchanges, order=None):
     """Runs the lines of these exchanges again, on a machine of these sizes. Their old replies are from a machine of order
-    `order`, or of the same order if that is None. Names from the old replies are replaced by those from the new ones. Lines are
-    sent together until one needs a reply that is still missing."""
+    `order`, or of the same order if that is None. Names from the old replies are replaced by those from the new ones, also in a
+    line that got no reply since the program failed. Lines are sent together until one needs a reply that is still missing."""
     before = sizes.order if order is None else order
     run, renamed, sent = Run(programs, sizes), collections.defaultdict(lambda: Renamed(before, sizes.order)), []
 
@@ -232,7 +232,7 @@ def replayed(programs, sizes, exchanges, order=None):
 
     for line, replies in exchanges:
         words, told = line.split(), told_in(replies)
-        is_plain = not told or told[0] == 'fault' or len(words) < 3
+        is_plain = told[:1] == ['fault'] or len(words) < 3
         names = None if is_plain else renamed[words[2] if words[0] == 'admin' else words[0]]
         if len(sent) >= MOST_AT_ONCE or names and names.needs(words):
             answered()

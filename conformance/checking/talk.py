@@ -59,7 +59,9 @@ class Programs(NamedTuple):
         try:
             return Talk(self.command + words_of(sizes), on_this_machine(self.seconds))
         except OSError as error:
-            raise CannotRun(f'{self.command[0]}: {error.strerror}') from None
+            name, is_here = self.command[0], os.sep not in self.command[0] and os.path.isfile(self.command[0])
+            advised = f'; did you mean ./{name}?' if is_here else ''
+            raise CannotRun(f'{name}: {error.strerror}{advised}') from None
 
 
 class Talk:
