@@ -84,7 +84,7 @@ words_of_promise Promise.Objects = codes "an object is aligned, lies in a slab o
 words_of_promise Promise.Layout = codes "a new cache has an unused number, and its objects fit into its slabs"
 words_of_promise Promise.Gives = codes "a free reports its block's order, and a reap or destroy at most the frames of empty slabs"
 words_of_promise Promise.Owners = codes "a superblock has one owner, and each change of owners is reported correctly"
-words_of_promise Promise.Bytes = codes "a byte that is read is the one that was left there, or a fresh one"
+words_of_promise Promise.Bytes = codes "a byte that is read is the one left there, or a fresh one if none was left or that one is in doubt"
 words_of_promise Promise.Report = codes "a report has the tenant's own figures"
 words_of_promise Promise.Still = codes "the figures of a report stay valid until a command changes something"
 

@@ -267,7 +267,8 @@ fn words_of(promise: Promise) -> &'static str
             "a free reports its block's order, and a reap or destroy at most the frames of empty slabs",
         Promise::Owners =>
             "a superblock has one owner, and each change of owners is reported correctly",
-        Promise::Bytes => "a byte that is read is the one that was left there, or a fresh one",
+        Promise::Bytes =>
+            "a byte that is read is the one left there, or a fresh one if none was left or that one is in doubt",
         Promise::Report => "a report has the tenant's own figures",
         Promise::Still => "the figures of a report stay valid until a command changes something",
     }
