@@ -1,6 +1,7 @@
--- What a run writes: the picture of a history, or the table of its figures.
-use Rattle.std.specs.Prelude.{◌≡◌, ℕ, ◌+◌, ◌^◌, ◌<◌, List, Option, Some, None, MatchBool, length}
+-- What a run reads and writes. It writes the picture of a history, or the table of its figures.
+use Rattle.std.specs.Prelude.{◌≡◌, ℕ, ◌+◌, ◌^◌, ◌<◌, Bool, true, false, List, Option, Some, None, MatchBool, length}
 use Rattle.words_core.specs.Cutting.{lines_of_trace}
+use Rattle.command_line.specs.declared.outcome.Outcome.{Outcome}
 use Rattle.frame_picture.specs.declared.history.History.{History}
 use Rattle.frame_picture.specs.Histories.{line_count, tenants_of}
 use Rattle.picture_svg.specs.declared.picture.Picture.{Picture}
@@ -43,3 +44,14 @@ pub record IsDrawing (settings : Settings) (known : Option (List ℕ)) (text : L
       → line_count history ≡ length (lines_of_trace trace)
   pub requested : IsRequestedPicture settings picture
   pub drawn : IsDrawnText settings history picture text
+
+-- whether the feed has ended, and whether it has failed, after a run with this outcome; ⊥ for outcomes that do not occur
+abbrev pub HasReadTrace : Outcome → (ended failed : Bool) → Type 0
+HasReadTrace Outcome.Done ended failed = (ended ≡ true) × (failed ≡ false)
+HasReadTrace Outcome.Unreadable ended failed = failed ≡ true
+HasReadTrace Outcome.Unwritable ended failed = failed ≡ false
+HasReadTrace Outcome.NoMemory ended failed = failed ≡ false
+HasReadTrace (Outcome.Help text) ended failed = ⊥
+HasReadTrace (Outcome.Version text) ended failed = ⊥
+HasReadTrace (Outcome.BadLine text) ended failed = ⊥
+HasReadTrace Outcome.BadOnly ended failed = ⊥

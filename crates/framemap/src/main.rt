@@ -24,9 +24,12 @@ use settings::{PROGRAM, Settings, read_words};
 use std::io::{self, BufWriter, IsTerminal, Read};
 use std::process::ExitCode;
 use std::rt::Env;
+use streams::LineLimit;
 
 /// The size of the output buffer in bytes.
 const BUFFER_BYTES: usize = 65_536;
+/// A trace must have fewer line feeds than this number, 2^30. Reading fails at a trace that has as many.
+const LINES_ABOVE: u64 = 1 << 30;
 
 fn main(rt: HostRuntime) -> ExitCode {
     match read_command_line(&rt) {
@@ -109,5 +112,10 @@ fn run_read<R: Read + Drop>(
         return Drawn::at_once(Outcome::NoMemory);
     };
     let feed = ReaderFeed::with_room(reader, u64::MAX);
-    run(alloc, settings, feed, &mut writer)
+    run(
+        alloc,
+        settings,
+        &mut LineLimit::new(feed, LINES_ABOVE),
+        &mut writer,
+    )
 }

@@ -1,11 +1,12 @@
 //! Runs a trace on a new machine, and writes its picture or its figures.
 
-ghost use Rattle.std.specs.Prelude.{◌≡◌, ◌⊎◌, ℕ, List, Some, false, length, OnOk};
+ghost use Rattle.std.specs.Prelude.{◌≡◌, ◌⊎◌, ℕ, Bool, List, Some, true, false, length, OnOk};
+ghost use Rattle.replay_core.specs.Ending.{IsRunToEnd, NamesEndFailed};
 ghost use Rattle.command_line.specs.declared.outcome.Outcome.TheVariants as Outcome;
 ghost use Rattle.words_core.specs.Cutting.{lines_of_trace};
 ghost use Rattle.world_core.specs.Output.{events_of};
 ghost use Rattle.picture_svg.specs.Texts.{AppendsText, WritesText};
-ghost use Rattle.framemap.specs.Drawing.{IsDrawing, IsDrawnText};
+ghost use Rattle.framemap.specs.Drawing.{HasReadTrace, IsDrawing, IsDrawnText};
 ghost use Rattle.framemap.specs.Watching.{HasWatched};
 
 use crate::figures::write_figures;
@@ -18,10 +19,6 @@ use picture_svg::picture::Picture;
 use replay_core::{EndFailed, Feed, WriterDrain, do_lines};
 use std::alloc::Global;
 use std::io::{self, Write};
-use streams::LineLimit;
-
-/// A trace must have fewer line feeds than this number, 2^30.
-const LINES_ABOVE: u64 = 1 << 30;
 
 /// How a run ended, and the number of events in the lines of the trace.
 #[derive(Debug, Drop)]
@@ -39,7 +36,11 @@ impl Drawn {
     }
 
     /// Returns whether the picture or table was written and the trace had no event.
-    pub fn is_of_nothing(&self) -> bool {
+    pub fn is_of_nothing(&self) -> bool
+        ensures done { result ≡ true → self.now.outcome ≡ Outcome.Done }
+        ensures events { result ≡ true → self.now.events ≡ 0 }
+        ensures nothing { self.now.outcome ≡ Outcome.Done → self.now.events ≡ 0 → result ≡ true }
+    {
         matches!(self.outcome, Outcome::Done) && self.events == 0
     }
 }
@@ -49,17 +50,18 @@ const LABEL_GAP: u32 = 4;
 
 /// Runs a trace on a new machine with these settings, and writes the picture of the machine's frames over the lines, or the table
 /// of the figures. If the trace cannot be read to its end, nothing is written.
-pub fn run<F: Feed + Drop, W: Write>(
+pub fn run<F: Feed, W: Write>(
     alloc: Global,
     settings: &Settings,
-    feed: F,
+    feed: &mut F,
     writer: &mut W,
 ) -> Drawn
-    requires { F.has_failed feed ≡ false }
-    ensures events { (trace : List ℕ) → F.remaining feed ≡ Some trace → result.outcome ≡ Outcome.Done
+    requires { F.has_failed feed.old ≡ false }
+    ensures read { HasReadTrace result.outcome (F.has_ended feed.new) (F.has_failed feed.new) }
+    ensures events { (trace : List ℕ) → F.remaining feed.old ≡ Some trace → result.outcome ≡ Outcome.Done
         → result.events ≡ length (events_of (lines_of_trace trace)) }
     ensures drawn { result.outcome ≡ Outcome.Done
-        → AppendsText (W.contents writer.old) (W.contents writer.new) (IsDrawing settings.now (F.remaining feed)) }
+        → AppendsText (W.contents writer.old) (W.contents writer.new) (IsDrawing settings.now (F.remaining feed.old)) }
     ensures nothing { (result.outcome ≡ Outcome.Unreadable) ⊎ (result.outcome ≡ Outcome.NoMemory) → writer.new ≡ writer.old }
 {
     let Ok(mut kernel) = Kernel::boot(alloc, settings.machine.config) else {
@@ -73,8 +75,10 @@ pub fn run<F: Feed + Drop, W: Write>(
     };
     picture.set_label_gap(LABEL_GAP);
     let mut watched = Watched { history, events: 0 };
-    if watch(&mut kernel, feed, &mut watched).is_err() {
-        return Drawn::at_once(Outcome::Unreadable);
+    match watch(&mut kernel, feed, &mut watched) {
+        Ok(()) => {}
+        Err(EndFailed::Feed) => return Drawn::at_once(Outcome::Unreadable),
+        Err(EndFailed::Drain) => return Drawn::at_once(Outcome::Unwritable),
     }
     let outcome = match write(settings, &watched.history, &mut picture, writer) {
         Ok(()) => Outcome::Done,
@@ -114,23 +118,19 @@ fn file_name(path: &str) -> &str {
     }
 }
 
-/// Runs all lines of a trace, and keeps the history of the machine's states. Fails if the trace cannot be read to its end, or if
-/// it has [`LINES_ABOVE`] line feeds or more.
-fn watch<F: Feed + Drop>(
-    kernel: &mut Kernel,
-    feed: F,
-    watched: &mut Watched,
-) -> Result<(), EndFailed>
-    requires fine { F.has_failed feed ≡ false }
+/// Runs all lines of a trace, and keeps the history of the machine's states. Fails if the trace cannot be read to its end.
+fn watch<F: Feed>(kernel: &mut Kernel, feed: &mut F, watched: &mut Watched) -> Result<(), EndFailed>
+    requires fine { F.has_failed feed.old ≡ false }
     requires none { watched.old.events ≡ 0 }
-    ensures { (trace : List ℕ) → F.remaining feed ≡ Some trace
+    ensures watched { (trace : List ℕ) → F.remaining feed.old ≡ Some trace
         → OnOk result (HasWatched (lines_of_trace trace) watched.old watched.new) }
+    ensures ended { IsRunToEnd result (F.has_ended feed.new) }
+    ensures failed { (is_drain : Bool) × NamesEndFailed result (F.has_failed feed.new) is_drain }
 {
-    let mut limited = LineLimit::new(feed, LINES_ABOVE);
     let mut unheard = WriterDrain::new(io::sink());
     // Only for the proof: the feed has at most `room` bytes, so the trace has at most `room` events.
-    let _most = limited.room();
-    do_lines(kernel, watched, &mut limited, &mut unheard)?;
+    let _most = feed.room();
+    do_lines(kernel, watched, feed, &mut unheard)?;
     watched.history.end(kernel);
     Ok(())
 }

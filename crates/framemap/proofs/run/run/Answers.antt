@@ -1,6 +1,5 @@
-use Rattle.std.proofs.Common.{◌≡◌, ◌+◌, ◌<◌, false, Result, Ok, Err, OnOk, ap, subst, sym, ◌∙◌, arith}
+use Rattle.std.proofs.Common.{◌≡◌, ◌<◌, Result, Ok, Err, OnOk, ap, subst, sym, ◌∙◌, arith}
 use Rattle.std.specs.Option.{ForSome}
-use Rattle.std.specs.Result.{is_err}
 use Rattle.command_line.specs.declared.outcome.Outcome.{Outcome}
 use Rattle.picture_svg.specs.Pictures.{end_of_tenants, first_tenant, label_gap_of, most_columns_in}
 use Rattle.picture_svg.specs.Texts.{AppendsText}
@@ -9,13 +8,13 @@ use Rattle.framemap.proofs.DrawnTenants.{drawn_is, opening_tenants}
 use Rattle.framemap.proofs.run.run.Goals.{in-Ok-write, in-Err}
 use Rattle.framemap.proofs.run.run.Goals as goal
 
-on_ok : {T E P : Type 0} (r : Result T E) → is_err r ≡ false → OnOk r P → P
+on_ok : {T E P : Type 0} {x : T} (r : Result T E) → r ≡ Ok x → OnOk r P → P
 on_ok (Ok x) fine h = h
 on_ok (Err e) fine h = cc
 
 pub returns-clause-events : goal.returns-clause-events
 returns-clause-events g c trace is done =
-    let here = on_ok c.watch.result (sym c.is_err.ensures.value ∙ c.if-is_err.false) (c.watch.ensures trace is) in omega (arith, here.events)
+    let here = on_ok c.watch.result c.in-Ok-watch.is (c.watch.ensures.watched trace is) in omega (arith, here.events)
 
 pub returns-clause-drawn : goal.returns-clause-drawn
 returns-clause-drawn g c done =
@@ -42,7 +41,7 @@ returns-clause-drawn g c done =
               history = history;
               picture = picture;
               lines = λ trace is within.
-                  let here = on_ok c.watch.result (sym c.is_err.ensures.value ∙ c.if-is_err.false) (c.watch.ensures trace is) in
+                  let here = on_ok c.watch.result c.in-Ok-watch.is (c.watch.ensures.watched trace is) in
                   let none = c.in-Ok-new.ensures.lines in
                   omega (arith, none, here.lines (omega (arith, none, within)));
               requested = requested;
