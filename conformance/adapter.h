@@ -5,7 +5,8 @@
  *
  * A superblock has 2^order frames of FRAME_BYTES bytes. Slot u of a tenant has 2^order frames, of which the first is frame
  * u * 2^order. Each byte of a tenant has a number, its place: frame f has FRAME_BYTES places, of which the first is
- * f * FRAME_BYTES. All places are below 2^32. A grant may choose any slot that the tenant does not hold.
+ * f * FRAME_BYTES. A grant may choose any slot below 65536 that the tenant does not hold, if all its places are below
+ * 2^32.
  *
  * The tenant that is passed always exists. The length of a write is 1 to MOST_BYTES, and the length of a pattern is 1 to
  * MOST_PATTERN. All other numbers may be any 32-bit numbers. The refusals of a function are listed in the order in which it has

@@ -9,7 +9,8 @@
 //!
 //! A superblock has `2^order` frames of [`FRAME_BYTES`] bytes. Slot `u` of a tenant has `2^order` frames, of which the first is
 //! frame `u * 2^order`. Each byte of a tenant has a number, its place: frame `f` has `FRAME_BYTES` places, of which the first is
-//! `f * FRAME_BYTES`. All places are below 2^32. A grant may choose any slot that the tenant does not hold.
+//! `f * FRAME_BYTES`. A grant may choose any slot below 65536 that the tenant does not hold, if all its places are below
+//! 2^32.
 //!
 //! The tenant that is passed always exists. A write has 1 to [`MOST_BYTES`] bytes, a pattern 1 to 16. All other numbers may be
 //! any 32-bit numbers. The refusals of a function are listed in the order in which it has to test them. A function that refuses

@@ -106,9 +106,12 @@ class Judge:
         return first and Breach('Exact', "reply line {}: partmem says '{}', the program '{}'".format(*first))
 
     def alone(self, run, tenant):
-        """Runs the tenant's own list alone. Returns a case if the tenant gets other replies then, or if the program fails."""
-        other = replayed(self.programs, run.sizes, [(line, []) for line in run.own_list(tenant)])
-        return Case(other, other.failure) if other.failure else self.compared(run, other, tenant, 'alone')
+        """Runs the tenant's own list alone. Returns a case if the tenant gets other replies then, or if the program fails. If the
+        run has no other lines, the program is not deterministic."""
+        own = run.own_list(tenant)
+        other = replayed(self.programs, run.sizes, [(line, []) for line in own])
+        where = 'alone' if own != [line for line, _ in run.exchanges] else 'again, which is all of these lines'
+        return Case(other, other.failure) if other.failure else self.compared(run, other, tenant, where)
 
     def compared(self, run, other, tenant, where):
         pairs = zip(run.told(tenant) + ['nothing'], other.told(tenant) + ['nothing'])

@@ -78,7 +78,7 @@ def add_loads(add):
     add('--seed', type=number(int, -INFINITE), default=1, metavar='S',
         help='a whole number; each makes different loads (default: 1)')
     add('--load', type=number(int, 0), metavar='N', help='run the load of this number alone')
-    add('--long', action='store_true', help='loads of 100,000 lines, half of them with 65,536 blocks or objects')
+    add('--long', action='store_true', help='longer loads, half of them with 65,536 blocks or objects')
     add('--trace', action='append', metavar='FILE',
         help='run this trace, or all traces of a folder, and no loads; can be given more than once')
     add('--save', metavar='FILE', help='write the shortened trace of a load that breaks a promise or fails, for --trace')

@@ -219,13 +219,16 @@ class Planner:
         return Plan(sizes, phases)
 
     def longest(self):
-        """Returns a plan of about 100,000 lines, with up to 2^16 objects or blocks at a time."""
+        """Returns a plan of at least 100,000 lines. On the widest machine a tenant has 2^16 blocks, or about 2^16 objects of 8 or
+        of 4,096 bytes."""
         sizes = self.machine([MOST_ORDER], [MOST_SUPERBLOCKS], [1, 2, 3])
         owner = [self.rng.randrange(sizes.tenants)]
-        if self.with_caches and self.rng.random() < 0.5:
-            fill = [self.cache(owner, [8], [8]), Phase(78000, FILL_OBJECTS, owner, [0], [8], 'full')]
+        size = self.in_turn([8, 4096, None, None], 2) if self.with_caches else None
+        if size:
+            fill = [self.cache(owner, [size], [8]), Phase(78000, FILL_OBJECTS, owner, [0], [size], 'full')]
             return Plan(sizes, self.whole(sizes, owner, sizes.order, TAKE, fill))
-        return Plan(sizes, self.whole(sizes, owner, 0, FILL_PAGES, []))
+        fill = Phase((2 << sizes.order) * sizes.superblocks, FILL_PAGES, owner, [0], until='full', is_plain=True)
+        return Plan(sizes, self.whole(sizes, owner, 0, ALLOC, [fill]))
 
     def plan(self, is_long):
         if is_long:

@@ -9,9 +9,9 @@ from .families import families_of
 from .runs import POWERS, Places, name_in, names_in, tenant_of
 from .words import FRAME_BYTES, MOST_ORDER, is_number, told_in
 
-# LARGER has sizes of objects that are tried if a cache has smaller objects. Then only the last objects of the cache are kept:
-# LAST_KEPT says how many.
-LARGER, LAST_KEPT = (4096, 2048, 1024, 512, 128, 32), (1, 2, 3, 4, 5, 6, 8, 9, 12, 16, 32)
+# LARGER has sizes of objects that are tried if a cache has smaller objects; some fill a frame exactly, others leave bytes for
+# colours. Then only the last objects of the cache are kept: LAST_KEPT says how many.
+LARGER, LAST_KEPT = (4096, 4000, 2048, 2000, 1024, 1000, 512, 500, 128, 32), (1, 2, 3, 4, 5, 6, 8, 9, 12, 16, 32)
 # If a cache has at most FEW_OBJECTS objects, no larger size is tried.
 FEW_OBJECTS = 3
 # For each kind of name, the command whose reply gives it.
