@@ -4,6 +4,7 @@ import functools
 import os
 import shlex
 import sys
+from errno import EACCES, EISDIR, ENOENT
 
 from .maker import OF_CACHES, OF_TENANT
 from .shorten import SHORTENING, SHORTENING_OF_HANGING
@@ -97,14 +98,21 @@ def options_of(words, description):
     options.without += OF_CACHES if options.pages else []
     if options.loads is None:
         options.loads = LONG_LOADS if options.long else LOADS
-    folder = os.path.dirname(options.save or '') or '.'
-    if not os.path.isdir(folder):
-        parser.exit(UNUSABLE, f'conformance/check: cannot write {options.save}: No such file or directory\n')
+    refuse_to_save(parser, options.save or '')
     for name in ['partcheck', *(['partmem'] if options.exact else [])]:
-        if not os.access(getattr(options, name), os.X_OK):
+        file = getattr(options, name)
+        if not os.access(file, os.X_OK):
             advised = f'build it by make prove, or by tools/unproved {name} and give --{name} out/{name}-unproved'
-            parser.exit(UNUSABLE, f'conformance/check: cannot run {getattr(options, name)}: {advised}\n')
+            advised = advised if file == parser.get_default(name) else os.strerror(EACCES if os.path.exists(file) else ENOENT)
+            parser.exit(UNUSABLE, f'conformance/check: cannot run {file}: {advised}\n')
     return options
+
+
+def refuse_to_save(parser, file):
+    """Exits before the test if `--save` names a folder, or a file in a folder that does not exist."""
+    if os.path.isdir(file) or not os.path.isdir(os.path.dirname(file) or '.'):
+        why = os.strerror(EISDIR if os.path.isdir(file) else ENOENT)
+        parser.exit(UNUSABLE, f'conformance/check: cannot write {file}: {why}\n')
 
 
 def command_of(parser, options):

@@ -1,5 +1,6 @@
 """Makes the report: about the load in which something was found, or about all loads if nothing was found."""
 import contextlib
+import itertools
 import re
 import time
 
@@ -10,10 +11,15 @@ from .talk import Failure
 from .words import MOST_ORDER, counted, in_seconds, visible, words_of
 
 # The lines of standard error that are shown: at most MOST_LAST_LINES at its end, at most MOST_TELLING that say what happened, and
-# at most MOST_FRAMES stack frames after each of those.
-MOST_LAST_LINES, MOST_TELLING, MOST_FRAMES = 5, 4, 3
+# after each of those at most MOST_MESSAGE lines of its message, and at most MOST_FRAMES stack frames of the next MOST_BEHIND
+# lines. Frames of Rust's own library are left out. A frame in Rust may have a second line, with its place.
+MOST_LAST_LINES, MOST_TELLING, MOST_MESSAGE, MOST_FRAMES, MOST_BEHIND = 5, 4, 3, 3, 60
 TELLING = re.compile(r'ERROR:|runtime error:|[Aa]ssertion|panicked at')
 FRAME = re.compile(r'\s*#\d+ |\s+\d+: ')
+LIBRARY = 'backtrace_rs|panicking|backtrace|sys|fmt|io|option|result|slice|ops|vec'
+OF_RUST = re.compile(rf'\s+\d+: .*(rust_begin_unwind|(core|std|alloc)(\[\w+\])?::({LIBRARY})\b)')
+PLACE = re.compile(r'\s+at ')
+BACKTRACE = 'stack backtrace:'
 # The refusals that commands of tenants may get, and those that commands of the administrator may get.
 REFUSALS = {'alloc': ['NoFrames', 'BadOrder'], 'free': ['NotABlock'], 'read': ['OutOfReach', 'BadLength'],
             'write': ['OutOfReach'], 'cache': ['BadSize', 'BadAlign', 'NoCacheSlot'], 'take': ['NoCache', 'NoFrames'],
@@ -59,8 +65,7 @@ def last_words(errors):
     """Yields the lines of standard error that say what happened, and the last ones. `..` marks lines that are left out."""
     lines, shown = errors.splitlines(), set()
     for at in [at for at, line in enumerate(lines) if TELLING.search(line)][:MOST_TELLING]:
-        behind = (frame for frame in range(at + 1, min(at + 20, len(lines))) if FRAME.match(lines[frame]))
-        shown |= {at, *(frame for frame, _ in zip(behind, range(MOST_FRAMES)))}
+        shown |= {at, *message_after(lines, at), *frames_after(lines, at)}
     shown |= set(range(max(0, len(lines) - MOST_LAST_LINES), len(lines)))
     before = -1
     for at in sorted(shown):
@@ -68,6 +73,22 @@ def last_words(errors):
             yield '..'
         yield visible(lines[at])
         before = at
+
+
+def message_after(lines, at):
+    """Returns the numbers of the lines right after a line that says what happened, up to its stack frames."""
+    behind = range(at + 1, min(at + 1 + MOST_MESSAGE, len(lines)))
+    return itertools.takewhile(lambda line: not FRAME.match(lines[line]) and lines[line] != BACKTRACE, behind)
+
+
+def frames_after(lines, at):
+    """Yields the numbers of the first stack frames after a line that says what happened, and of the lines with their places."""
+    behind = range(at + 1, min(at + 1 + MOST_BEHIND, len(lines)))
+    frames = (line for line in behind if FRAME.match(lines[line]) and not OF_RUST.match(lines[line]))
+    for frame in itertools.islice(frames, MOST_FRAMES):
+        yield frame
+        if frame + 1 < len(lines) and PLACE.match(lines[frame + 1]):
+            yield frame + 1
 
 
 def said_of(finding, whole):

@@ -12,8 +12,9 @@ from .words import LEAST_ORDER, Sizes, counted, in_seconds, is_number, told_in
 # For how many seconds a load is shortened. The second number is for a program that hangs: each run that shows this waits until
 # the time for a reply is over.
 SHORTENING, SHORTENING_OF_HANGING = 30, 4
-# While a failure is shortened, a reply may take TIMES_SLOWEST times as long as the slowest reply of the whole load, but at least
-# LEAST_SECONDS and at most SECONDS.
+# While the load of a program that hangs is shortened, a reply may take TIMES_SLOWEST times as long as the slowest reply of the
+# whole load, but at least LEAST_SECONDS and at most SECONDS. A program that crashes may take SECONDS, since it may need long to
+# print its stack.
 TIMES_SLOWEST, LEAST_SECONDS = 10, 0.2
 # Seconds that a reply may take when the shortened failure is run once more: a busy machine makes a program look as if it hung.
 SECONDS_AGAIN = 1
@@ -258,7 +259,7 @@ def shortened(options, case, note):
     """Returns the shortest case that was found. Also returns the seconds after which shortening was stopped, or None if it was
     not."""
     is_failure, seconds, patience = isinstance(case.finding, Failure), options.shorten, SECONDS
-    if is_failure:
+    if not is_at_once(case.finding):
         patience = min(SECONDS, max(LEAST_SECONDS, TIMES_SLOWEST * case.run.slowest))
     if seconds is None:
         seconds = SHORTENING if is_at_once(case.finding) else SHORTENING_OF_HANGING
