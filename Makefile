@@ -2,6 +2,8 @@
 SHELL := bash
 PREFIX ?= out/installed
 LIBDIR ?= lib
+# How many tests and proofs run at a time: one for each processor that `make` may run on.
+JOBS ?= $(shell nproc)
 PROGRAMS := partmem framemap partcheck
 # The tests, by what they need. A script prints which tools are missing, and skips what needs them. tests/tools lists all tools.
 #   nothing that was built; refused-growths and pasted-first build without proofs:
@@ -21,13 +23,13 @@ try: ## runs partmem on an example, without proofs (2 minutes)
 unproved: ## builds the programs and the library for C without proofs (2 minutes)
 	tools/unproved $(PROGRAMS) library
 prove: ## proves all crates and builds the programs, without tests
-	@rt all check --jobs 4 >&2
+	@rt all check --jobs $(JOBS) >&2
 	@for name in $(PROGRAMS); do \
 	    (cd crates/$$name && rt run -- --version) >&2 && crates/$$name/out/$$name --version || exit 1; \
 	done
 test: ## proves everything, tries the wrong bodies, and runs all tests
-	tests/verdict
-	$(MAKE) -j4 --output-sync=target check
+	tests/verdict $(ANEW)
+	$(MAKE) -j$(JOBS) --output-sync=target check
 check: tools $(CHECKS) ## runs all tests over what `rt ci` has proved
 library: proved ## builds the library for C from what `rt ci` has proved
 	tools/library
