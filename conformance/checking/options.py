@@ -83,7 +83,7 @@ def add_loads(add):
     add('--trace', action='append', metavar='FILE',
         help='run this trace, or all traces of a folder, and no loads; can be given more than once')
     add('--save', metavar='FILE', help='write the shortened trace of a load that breaks a promise or fails, for --trace')
-    add('--jobs', type=number(int, 1, MOST_JOBS), default=min(os.cpu_count() or 1, MOST_JOBS), metavar='J',
+    add('--jobs', type=number(int, 1, MOST_JOBS), default=min(len(os.sched_getaffinity(0)), MOST_JOBS), metavar='J',
         help=f'how many loads are run at a time, 1 to {MOST_JOBS} (default: one for each processor)')
     add('--shorten', type=number(float, 0), metavar='SECONDS',
         help=f'how long a load is shortened, at most (default: {SHORTENING}, and {SHORTENING_OF_HANGING} if PROGRAM hangs)')

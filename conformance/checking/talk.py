@@ -47,7 +47,7 @@ class CannotRun(Exception):
 def on_this_machine(seconds):
     """Returns how many seconds to wait. If more processes want to run than there are processors, the wait is longer in
     proportion."""
-    return round(seconds * max(1, os.getloadavg()[0] / (os.cpu_count() or 1)), 1)
+    return round(seconds * max(1, os.getloadavg()[0] / len(os.sched_getaffinity(0))), 1)
 
 
 class Programs(NamedTuple):
