@@ -12,6 +12,7 @@ CLAUSE = re.compile(r"^ *ensures\*? ?(\w*) ?\{ ?(\w*)")
 class Function(typing.NamedTuple):
     """A function of a source. The prover's name of a method also has the arguments of the type, the trait and its arguments."""
     is_public: bool
+    is_declared_by_trait: bool
     name: str
     provers_name: str
     clauses: list
@@ -46,7 +47,8 @@ def functions_of(path):
         if function:
             name, provers_name = names_of(owner, function[2]) if owner else (function[2], function[2])
             is_public = function[1] == "pub " or bool(owner and (owner["trait"] or owner["declared"]))
-            found.append(Function(is_public, name, provers_name, [], text_of_comment(comment)))
+            is_declared_by_trait = bool(owner and owner["declared"])
+            found.append(Function(is_public, is_declared_by_trait, name, provers_name, [], text_of_comment(comment)))
         elif clause and found:
             # A clause without a name is named after the relation that it applies, unless the function has that name.
             is_relation = re.match(r"(?!If|Match)[A-Z]", clause[2]) and clause[2].lower() != found[-1].name.replace("_", "")
