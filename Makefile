@@ -7,7 +7,7 @@ JOBS ?= $(shell nproc)
 PROGRAMS := partmem framemap partcheck
 # The tests, by what they need. A script prints which tools are missing, and skips what needs them. tests/tools lists all tools.
 #   nothing that was built; refused-growths and pasted-first build without proofs:
-FROM_SOURCES := structure documents diagrams pages witnesses helps refused-growths pasted-first
+FROM_SOURCES := structure documents diagrams pages witnesses edits helps refused-growths pasted-first
 #   the programs that `rt ci` built:
 OVER_PROGRAMS := hostile-bytes refused-memory instructions conformance plain-machine pictures browser machines \
     command-lines partcheck examples
@@ -15,13 +15,15 @@ OVER_PROGRAMS := hostile-bytes refused-memory instructions conformance plain-mac
 OVER_LIBRARY := same-path kernel-archives objtool in-place heap watched cpp use-from-c pasted demo-kernel linux rust \
     costs stack install
 CHECKS := $(addprefix check-,$(FROM_SOURCES) $(OVER_PROGRAMS) $(OVER_LIBRARY))
-.PHONY: list try unproved prove test check tools proved library install uninstall release bench soak $(CHECKS)
+.PHONY: list try unproved quick prove test check tools proved library install uninstall release bench soak $(CHECKS)
 
 list: ; @sed -n "s/^\([a-z-]*\):[^#]*## /make \1\t/p" Makefile | expand -t 18
 try: ## runs partmem on an example, without proofs (2 minutes)
 	cd crates/partmem && rt try -- --order 3 --superblocks 2 --tenants 2 < ../../examples/tenants.trace
 unproved: ## builds the programs and the library for C without proofs (2 minutes)
 	tools/unproved $(PROGRAMS) library
+quick: ## runs the tests that need no proof, over builds without proofs (15 minutes)
+	tests/quick
 prove: ## proves all crates and builds the programs, without tests
 	@rt all check --jobs $(JOBS) >&2
 	@for name in $(PROGRAMS); do \
@@ -51,7 +53,7 @@ $(addprefix check-,$(OVER_LIBRARY)): library
 # Scripts run without the variables of this `make`. A `make` that they run would otherwise print the folders that it enters.
 AS_A_USER := env -u MAKEFLAGS -u MFLAGS -u MAKELEVEL
 check-pasted-first: ; $(AS_A_USER) tests/pasted --first
-IN_FOLDERS := $(addprefix check-,in-place heap watched cpp)
+IN_FOLDERS := $(addprefix check-,edits in-place heap watched cpp)
 $(IN_FOLDERS): check-%: ; $(AS_A_USER) tests/$*/run
 $(filter-out check-pasted-first $(IN_FOLDERS),$(CHECKS)): check-%:
 	$(AS_A_USER) tests/$*
