@@ -24,7 +24,7 @@ for name in "$@"; do
         library)
             cp out/lib/libpartmem.a out/libpartmem-unproved.a
             cp out/lib/libpartmem_watched.a out/libpartmem_watched-unproved.a ;;
-        linux) cp out/lib/libpartmem_linux.a out/libpartmem_linux-unproved.a ;;
+        linux | kernel) cp "out/lib/libpartmem_$name.a" "out/libpartmem_$name-unproved.a" ;;
         *) cp "crates/$name/out/$name" "out/$name-unproved" ;;
     esac
 done
