@@ -21,10 +21,8 @@ pub struct Line {
 impl Line {
     /// Returns an empty line.
     pub fn new() -> Line {
-        Line {
-            bytes: [0; ROOM],
-            len: 0,
-        }
+        let bytes = [0; ROOM];
+        Line { bytes, len: 0 }
     }
 
     /// Returns the bytes of the line.
