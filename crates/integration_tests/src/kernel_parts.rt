@@ -1,9 +1,9 @@
 //! Fixed values that the parts of a kernel return, alone and after the kernel has run a trace.
 
+use crate::running::written_by;
 use buddy_core::Buddy;
 use kernel_core::{Config, Kernel};
 use klist_core::Lists;
-use replay_core::{ReaderFeed, WriterDrain, replay};
 use slab_core::Slabs;
 use space_core::Space;
 use std::alloc::Global;
@@ -18,13 +18,7 @@ fn kernel_after(alloc: Global, trace: &[u8]) -> Result<Kernel, Fail> {
         tenants: 2,
     };
     let mut kernel = Kernel::boot(alloc, config)?;
-    let mut replies = Vec::new(alloc);
-    replay(
-        &mut kernel,
-        &mut ReaderFeed::new(trace),
-        &mut WriterDrain::new(&mut replies),
-        None,
-    )?;
+    let _replies = written_by(alloc, &mut kernel, trace)?;
     Ok(kernel)
 }
 
