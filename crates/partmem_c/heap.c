@@ -200,6 +200,18 @@ static void *take_pages(partmem_heap *heap, size_t bytes)
 
 /* ---- Pieces ------------------------------------------------------------------------------------------------------------- */
 
+/* Takes an object of the smallest class that is large enough, has the alignment and a cache, and has a free object or gets a
+ * slab. If no frame is free, a slab of a larger class may still have a free object. */
+static void *take_larger(partmem_heap *heap, size_t align, size_t bytes)
+{
+    partmem_lent object;
+    for (uint32_t class = class_for(heap, bytes); class < heap->classes; class++) {
+        const bool is_possible = heap->align[class] >= align && heap->cache_of[class];
+        if (is_possible && take(heap, class, &object) == PARTMEM_DONE) return object.at;
+    }
+    return NULL;
+}
+
 /* Takes an object of the smallest class that is large enough, has the alignment, and has or gets a cache. If there is no
  * such class, or if the take is refused, allocates pages, which begin at a multiple of 4096. */
 static void *allocate(partmem_heap *heap, size_t align, size_t bytes)
@@ -208,7 +220,9 @@ static void *allocate(partmem_heap *heap, size_t align, size_t bytes)
     partmem_status status = PARTMEM_NO_CACHE_SLOT;
     for (uint32_t class = class_for(heap, bytes); class < heap->classes && status == PARTMEM_NO_CACHE_SLOT; class++)
         if (heap->align[class] >= align) status = take(heap, class, &object);
-    return status == PARTMEM_DONE ? object.at : take_pages(heap, bytes);
+    if (status == PARTMEM_DONE) return object.at;
+    void *pages = take_pages(heap, bytes);
+    return pages ? pages : take_larger(heap, align, bytes);
 }
 
 /* Returns how many bytes a request gets if there are enough frames and caches. */

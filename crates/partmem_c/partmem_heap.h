@@ -19,8 +19,9 @@
  *     realloc                                 none, those of a request, or those of a request and a free
  *     init, usable_size, place                none: they look things up
  *
- * If a take finds too few frames for a slab, which has up to 8 frames, a page block of one frame is allocated instead. If the
- * tenant has 32 caches, a request whose class has no cache gets an object of the next class that has one, or else a page block.
+ * If a take finds too few frames for a slab, which has up to 8 frames, a page block of one frame is allocated instead. If no
+ * frame is free either, the request gets a free object of a larger class that has one. If the tenant has 32 caches, a request
+ * whose class has no cache gets an object of the next class that has one, or else a page block.
  * So the commands follow from the earlier calls to the heap, from the tenant's other commands, and from its grants, take-backs
  * and resets. One result does not follow from these: whether partmem_heap_init accepts the slots of a heap with runs (see RUNS).
  * A tenant gets the same places, sizes and refusals whatever other tenants do. No object has a header, and nothing is kept for
@@ -55,9 +56,10 @@
  *
  * DUTIES. The duties of partmem.h apply, with two exceptions: config and the address of a piece may be NULL, and an address that
  * is passed may have any value. A call to a heap counts as a call on its machine: make one at a time. Heap and config lie outside
- * of the machine's memory. Only these functions read or write a heap; it may be copied elsewhere if the old copy is not used
- * again. A tenant has one heap: calls to a second heap count as direct calls. Do not use a heap before partmem_heap_init. After a
- * reset of the tenant or the machine's end, do not use it until it is initialised again. A heap that is all 0 may always be used.
+ * of the machine's memory, or in lent bytes whose lifetime does not end while the heap is used. The heap has addresses in it.
+ * Only these functions read or write a heap; it may be copied elsewhere if the old copy is not used again. A tenant has one heap:
+ * calls to a second heap count as direct calls. Do not use a heap before partmem_heap_init. After a reset of the tenant or the
+ * machine's end, do not use it until it is initialised again. A heap that is all 0 may always be used.
  *
  * PROVED: what each command of the heap does. TESTED: all of heap.c, and the functions in C that it uses, partmem_find_place and
  * partmem_superblock_address. docs/heap.md says how, and what a heap costs. */
@@ -104,9 +106,9 @@ typedef struct partmem_heap {
 PARTMEM_CHECKED partmem_status partmem_heap_init(partmem_heap *heap, partmem_tenant tenant, const partmem_heap_config *config);
 
 /* Allocates at least `bytes` bytes, and at least 1 byte, at an address that is a multiple of 16. The bytes may have any values.
- * Returns NULL for a heap that is all 0, for a request that is too large, and if no free block is large enough (with runs: no row
- * of free superblocks), even after all empty slabs were given back. A refused request may have made the cache of its class, and
- * with runs it may have given back the tenant's empty slabs. */
+ * Returns NULL for a heap that is all 0, for a request that is too large, and if no free block is large enough (with runs: no
+ * row of free superblocks), even after all empty slabs were given back, and no free object either. A refused request may have
+ * made the cache of its class, and with runs it may have given back the tenant's empty slabs. */
 void *partmem_heap_malloc(partmem_heap *heap, size_t bytes);
 
 /* Allocates `count` times `bytes` bytes, which are 0. Returns NULL as malloc does, and if the product overflows. */

@@ -222,7 +222,8 @@ static void check_no_cache(void)
 }
 
 /* Checks that a heap that was initialised without a slot allocates after the first grant. A slab of 32 KiB needs the whole
- * superblock. If something else is in it, the request gets a page block of one frame. */
+ * superblock. If something else is in it, the request gets a page block of one frame. If the slab has all frames, a small request
+ * gets one of its objects, until none is free. */
 static void check_few_frames(void)
 {
     unsigned char *at, *other;
@@ -232,6 +233,12 @@ static void check_few_frames(void)
     MUST(partmem_heap_usable_size(&heap, other) == 4096 && partmem_heap_free(&heap, other) == PARTMEM_DONE);
     MUST(partmem_heap_free(&heap, at) == PARTMEM_DONE);
     MUST((at = partmem_heap_malloc(&heap, 3568)) && partmem_heap_usable_size(&heap, at) == 3568);
+    for (int objects = 1; objects < 9; objects++) {
+        MUST((other = partmem_heap_malloc(&heap, 10)) && partmem_heap_usable_size(&heap, other) == 3568);
+    }
+    MUST(!partmem_heap_malloc(&heap, 10) && !partmem_heap_aligned_alloc(&heap, 64, 10));
+    MUST(partmem_heap_realloc(&heap, other, 20) == other && partmem_heap_free(&heap, other) == PARTMEM_DONE);
+    MUST(partmem_heap_malloc(&heap, 10) == other);
 }
 
 int main(void)
