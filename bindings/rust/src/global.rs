@@ -66,7 +66,7 @@ pub struct LazyHeap(State);
 
 #[allow(clippy::large_enum_variant)] // a program has only one, in a static
 enum State {
-    New(Open),
+    New { open: Open, has_runs: bool },
     Opened(ManuallyDrop<Machine>, Tenant, RawHeap),
     Failed,
 }
@@ -78,14 +78,21 @@ unsafe impl Send for LazyHeap {}
 impl LazyHeap {
     /// Returns a heap that is not opened yet. If opening it fails, each allocation fails.
     pub const fn new(open: Open) -> LazyHeap {
-        LazyHeap(State::New(open))
+        LazyHeap(State::New { open, has_runs: false })
+    }
+
+    /// Returns a heap that is not opened yet, for requests that are larger than a superblock: it has
+    /// [runs](crate::Client::heap_with). `open` has to grant the tenant all its slots in a row, before anybody else gets one. If
+    /// opening it fails, each allocation fails.
+    pub const fn with_runs(open: Open) -> LazyHeap {
+        LazyHeap(State::New { open, has_runs: true })
     }
 
     fn open(&mut self) {
-        if let State::New(open) = self.0 {
+        if let State::New { open, has_runs } = self.0 {
             let opened = open().and_then(|(machine, tenant)| {
                 let machine = ManuallyDrop::new(machine);
-                let raw = RawHeap::new(machine.of(tenant), &[], false)?;
+                let raw = RawHeap::new(machine.of(tenant), &[], has_runs)?;
                 Ok(State::Opened(machine, tenant, raw))
             });
             self.0 = opened.unwrap_or(State::Failed);
@@ -200,7 +207,7 @@ impl<T> fmt::Debug for SpinLock<T> {
 impl fmt::Debug for State {
     fn fmt(&self, to: &mut fmt::Formatter<'_>) -> fmt::Result {
         to.write_str(match self {
-            State::New(_) => "New",
+            State::New { .. } => "New",
             State::Opened(..) => "Opened",
             State::Failed => "Failed",
         })

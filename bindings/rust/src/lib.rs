@@ -153,8 +153,9 @@
 //! - *After the end.* The memory of [`Machine::boot`] goes back to the allocator with the tenants' bytes in it. Overwrite secrets
 //!   before you drop the machine.
 //! - *Booting.* The crate boots one machine at a time. C code in the same program must not boot another at the same time.
-//! - *Other code.* Make no call from a signal handler, nor from the forked child of a process with threads. The compiler sees no
-//!   page tables and no devices. Map only page blocks. Unmap them, and stop devices, before a free, reset, move or end.
+//! - *Other code.* Make no call from a signal handler, nor from the forked child of a process with threads. Do not leave a call by
+//!   `longjmp`, and do not cancel its thread asynchronously. The compiler sees no page tables and no devices. Map only page
+//!   blocks. Unmap them, and stop devices, before a free, reset, move or end.
 #![no_std]
 #![cfg_attr(feature = "allocator_api", feature(allocator_api))]
 #![deny(missing_debug_implementations, unsafe_op_in_unsafe_fn, clippy::undocumented_unsafe_blocks)]

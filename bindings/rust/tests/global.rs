@@ -46,6 +46,36 @@ fn collections_of_many_threads_lie_in_the_tenants_memory() {
     assert!(is_own(counts.as_ptr().cast()) && counts.iter().all(|count| *count > 1000));
 }
 
+/// Superblocks of 32 KiB: the table of a map with 60,000 entries is larger.
+const OF_RUNS: Config = Config { order: 3, superblocks: 200, tenants: 1 };
+static MEMORY_OF_RUNS: StaticMemory<{ OF_RUNS.ram_bytes() }, { OF_RUNS.table_bytes() }> = StaticMemory::new();
+static WITH_RUNS: Global<SpinLock<LazyHeap>> = Global::new(SpinLock::new(LazyHeap::with_runs(open_for_runs)));
+
+fn open_for_runs() -> Result<(Machine, Tenant), Error> {
+    let machine = Machine::boot_in(OF_RUNS, MEMORY_OF_RUNS.take().ok_or(Error::NoMemory)?)?;
+    for _ in 0..OF_RUNS.superblocks {
+        machine.grant(Tenant(0))?;
+    }
+    Ok((machine, Tenant(0)))
+}
+
+#[test]
+fn with_runs_a_request_may_be_larger_than_a_superblock() {
+    let (large, all) = (Layout::new::<[u8; 2_000_000]>(), Layout::new::<[u8; 200 << 15]>());
+    // SAFETY: no layout is empty. Each call with the piece gets the layout that the piece has, and the piece is freed once.
+    unsafe {
+        let at = WITH_RUNS.alloc_zeroed(large);
+        assert!(!at.is_null() && *at.add(1_999_999) == 0);
+        at.add(1_999_999).write(7);
+        let at = WITH_RUNS.realloc(at, large, 3_000_000);
+        assert!(!at.is_null() && *at.add(1_999_999) == 7 && WITH_RUNS.alloc(all).is_null());
+        WITH_RUNS.dealloc(at, Layout::new::<[u8; 3_000_000]>());
+        let at = WITH_RUNS.alloc(all);
+        assert!(!at.is_null() && GLOBAL.alloc(Layout::new::<[u8; 300_000]>()).is_null());
+        WITH_RUNS.dealloc(at, all);
+    }
+}
+
 #[test]
 fn requests_are_aligned_and_refused_like_those_of_a_heap() {
     for align in (0..13).map(|power| 1 << power) {

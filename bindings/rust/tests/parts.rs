@@ -275,3 +275,21 @@ fn tables_have_the_size_of_the_header_and_of_a_machine() {
     }
     assert_eq!(sum, TABLES_OF_ALL);
 }
+
+/// Checks that heaps work in lent memory, of another tenant and of their own, and that nothing else there changes.
+#[test]
+fn a_heap_may_lie_in_lent_memory() {
+    with_two(2, |_, first, second| {
+        let heaps = first.cache_of::<Heap<'_>>().unwrap();
+        let (other, own) = (heaps.take(second.heap().unwrap()).unwrap(), heaps.take(first.heap().unwrap()).unwrap());
+        let block = first.alloc(0).unwrap();
+        let kept = first.lend(&block).unwrap().to_vec();
+        let values: Vec<_> =
+            (0..200u64).map(|value| (other.boxed(value).unwrap(), own.boxed([value; 5]).unwrap())).collect();
+        for (value, (one, five)) in (0..).zip(&values) {
+            assert_eq!((**one, **five), (value, [value; 5]));
+        }
+        drop(values);
+        assert_eq!(first.lend(&block).unwrap(), kept);
+    });
+}
