@@ -1,7 +1,8 @@
 /* For each order, boots machines with each number of superblocks, then with each number of tenants, then with every tenth number
  * of superblocks combined with every third number of tenants. Sizes outside the ranges have to be refused. Checks what each
  * machine reports about itself, and that a call writes no byte that it may not write. partmem_end has to leave zeroes in the
- * partmem_machine. Also refuses each allocation of two boots in turn, so it is linked with library_memory.c. */
+ * partmem_machine. Then boots each combination of sizes in tables of the size that PARTMEM_TABLE_BYTES says. Also refuses each
+ * allocation of two boots in turn, so it is linked with library_memory.c. */
 #include <stdbool.h>
 #include <stdio.h>
 #include <stdlib.h>
@@ -222,6 +223,42 @@ static long refuse_each(uint32_t order, uint32_t superblocks, uint32_t tenants)
     }
 }
 
+/* Boots these sizes in tables of PARTMEM_TABLE_BYTES, behind which no byte may change, and lends the first frame. */
+static void boot_in_tables(uint32_t order, uint32_t superblocks, uint32_t tenants, uint8_t *ram, uint8_t *tables)
+{
+    const size_t bytes = PARTMEM_TABLE_BYTES(order, superblocks, tenants);
+    const partmem_config config = {order, superblocks, tenants};
+    const partmem_memory memory = {ram, tables};
+    partmem_machine machine = {{0}};
+    const partmem_tenant last = {&machine, tenants - 1};
+    partmem_slot slot;
+    partmem_lent lent;
+    tables[bytes] = UNTOUCHED;
+    bool is_booted = partmem_boot_in(&machine, &config, &memory) == PARTMEM_DONE && tables[bytes] == UNTOUCHED;
+    check(is_booted, "a boot in tables of this size", order, superblocks, tenants);
+    bool is_lent = partmem_grant(last, &slot) == PARTMEM_DONE && partmem_alloc(last, 0, &lent) == PARTMEM_DONE && lent.at == ram;
+    check(is_lent, "the first frame", order, superblocks, tenants);
+    bool is_last = partmem_superblock_address(&machine, superblocks - 1) == ram + PARTMEM_RAM_BYTES(order, superblocks - 1);
+    check(is_last, "the address of the last superblock", order, superblocks, tenants);
+    check(partmem_end(&machine) == PARTMEM_DONE && tables[bytes] == UNTOUCHED, "its end", order, superblocks, tenants);
+}
+
+/* Boots each combination of sizes, and returns how many there are. */
+static int boot_each(void)
+{
+    uint8_t *ram = aligned_alloc(PARTMEM_FRAME_BYTES, PARTMEM_RAM_BYTES(8, 256));
+    uint8_t *tables = malloc(PARTMEM_TABLE_BYTES(8, 256, 64) + 1);
+    int booted = 0;
+    check(ram && tables, "no memory", 8, 256, 64);
+    for (uint32_t order = 3; order <= 8; order++)
+        for (uint32_t superblocks = 1; superblocks <= 256; superblocks++)
+            for (uint32_t tenants = 1; tenants <= 64; tenants++, booted++)
+                boot_in_tables(order, superblocks, tenants, ram, tables);
+    free(tables);
+    free(ram);
+    return booted;
+}
+
 int main(void)
 {
     int booted = 0;
@@ -236,9 +273,10 @@ int main(void)
             for (uint32_t tenants = 3; tenants <= 63; tenants += 3, booted++) boot_and_end(order, superblocks, tenants);
         }
     }
-    int refused = try_edges();
+    int refused = try_edges(), booted_in = boot_each();
     long small = refuse_each(3, 2, 2), widest = refuse_each(8, 256, 64);
-    printf("%d sizes boot and end, and %d are refused; %ld allocations of a small boot refused in turn, and %ld of the widest\n",
-           booted, refused, small, widest);
+    printf("%d sizes boot and end, %d are refused, and all %d boot in memory of their size; "
+           "%ld allocations of a small boot refused in turn, and %ld of the widest\n",
+           booted, refused, booted_in, small, widest);
     return 0;
 }
