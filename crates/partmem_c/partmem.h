@@ -224,8 +224,8 @@ typedef struct partmem_memory {
 
 /* Boots a machine in which no superblock has an owner, in memory that is the library's until partmem_end. *config and *memory are
  * read only during the call. Superblock m lies at ram + m * PARTMEM_RAM_BYTES(order, 1), and is not touched before it is put
- * under a slot. Returns HAS_MACHINE, BAD_CONFIG, BAD_MEMORY, and NO_MEMORY if PARTMEM_TABLE_BYTES is too small. There are 98304
- * combinations of sizes. Tests boot 7671 of these, and it is enough for each of them. */
+ * under a slot. Returns HAS_MACHINE, BAD_CONFIG, BAD_MEMORY, and NO_MEMORY if PARTMEM_TABLE_BYTES is too small. Tests boot each
+ * of the 98304 combinations of sizes, and it is enough for each. */
 PARTMEM_CHECKED partmem_status partmem_boot_in(partmem_machine *machine, const partmem_config *config,
                                                const partmem_memory *memory);
 
@@ -511,8 +511,9 @@ PARTMEM_CHECKED partmem_status partmem_line(partmem_machine *machine, const char
  *     while there is no machine in it. [Two copies use and free one machine.]
  *  2. Arguments. Each pointer leads to a live object of its type, or to as many bytes as its length says. None is NULL, not
  *     even for 0 bytes, nor is a tenant's machine. The objects of one call do not overlap, and NONE LIES IN THE MACHINE'S MEMORY,
- *     not even in lent bytes: copy them out first. Only the address for partmem_find_place may have any value. [A result is
- *     written into memory that the call is changing, or has just moved away.]
+ *     not even in lent bytes: copy them out first. Only the address for partmem_find_place may have any value. Until the call
+ *     returns, nobody else stores in these objects, such as the bytes of a request or a line. [A result is written into memory
+ *     that the call is changing, or has just moved away; the call reads an argument twice and finds two values.]
  *  3. Memory. RAM and tables have the sizes of their macros, can be loaded and stored, and do not overlap. From boot to end they
  *     stay where they are, and nobody else touches them: the caller uses only lent bytes. aligned_alloc, malloc and free are one
  *     allocator. [Anything.]
@@ -528,9 +529,10 @@ PARTMEM_CHECKED partmem_status partmem_line(partmem_machine *machine, const char
  *  7. Users. If the caller keeps objects of its own in the caches of a tenant, it does not let the tenant's user lend, read,
  *     write, give or destroy there. [The user changes the caller's own objects.]
  *  8. Threads. One call at a time on a machine, from any thread, under a lock of the caller. No call from a signal or interrupt
- *     handler that may have interrupted a call, nor from the forked child of a process with threads. [Anything.] Loads and stores
- *     in lent bytes need no lock against calls, with three exceptions: a write to them, a read of them, and a call that ends
- *     their lifetime.
+ *     handler that may have interrupted a call, nor from the forked child of a process with threads. A call that has begun runs
+ *     to its end: no longjmp leaves it, and no asynchronous cancellation ends its thread. [Anything: a free frame may stay in two
+ *     blocks.] Loads and stores in lent bytes need no lock against calls, with three exceptions: a write to them, a read of them,
+ *     and a call that ends their lifetime.
  *  9. Ring 0. SSE is enabled, and the stack is aligned as C requires. A user's xmm registers are saved before the first call and
  *     restored after the last. The direction flag is clear. There are 4096 bytes of stack above a guard page, beside what memcpy,
  *     memmove and memset take. No interrupt uses this stack, since the library also uses the 128 bytes below its stack pointer.
