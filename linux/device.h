@@ -1,6 +1,10 @@
 /* The calls of /dev/partmem. The administrator, a process with CAP_SYS_ADMIN, grants superblocks to partitions, and binds open
  * files of the device to them. A process with a bound file maps its partition's places with MAP_SHARED, place 0 at offset 0, and
- * allocates page blocks there. An access to a place outside the partition's page blocks raises SIGBUS. */
+ * allocates page blocks there. An access to a place outside the partition's page blocks raises SIGBUS.
+ *
+ * A map with PROT_EXEC fails with EPERM. A file that is open only for reading can be bound and mapped for reading. Its other calls
+ * fail with EBADF, as all do on a file that is not bound, or no longer. The files of a partition can have 256 maps. One more fails
+ * with ENOMEM. If a fork or a split makes more of them, FREE fails with EBUSY. */
 #ifndef PARTMEM_DEVICE_H
 #define PARTMEM_DEVICE_H
 

@@ -2,53 +2,38 @@
  * results of its calls and what it finds. linux/run compares these lines. In a noisy world partition 1 meanwhile allocates, frees
  * and stores at random, slots of both are moved, and partition 1 is reset. Perl runs in a world of its own, with its heap in a
  * partition whose slots are moved. The output goes to port 0xe9. */
-#define _GNU_SOURCE
+#include "init.h"
+
 #include <errno.h>
-#include <fcntl.h>
 #include <poll.h>
-#include <setjmp.h>
 #include <signal.h>
-#include <stdbool.h>
 #include <stdio.h>
-#include <stdlib.h>
 #include <string.h>
 #include <sys/io.h>
-#include <sys/ioctl.h>
-#include <sys/mman.h>
 #include <sys/mount.h>
 #include <sys/reboot.h>
 #include <sys/stat.h>
 #include <sys/syscall.h>
 #include <sys/uio.h>
-#include <sys/wait.h>
-#include <unistd.h>
 
-#include "device.h"
-
-enum { FRAME = 4096, ORDER = 4, SUPERBLOCKS = 12, UNIT = FRAME << ORDER, PLACES = SUPERBLOCKS * UNIT };
-enum { ROUNDS = 4000, MEETING = 40, MOST = 64, SLOTS = 3, PORT = 0xe9, OTHER = 0xbb };
+enum { ROUNDS = 4000, MEETING = 40, SLOTS = 3, PORT = 0xe9, OTHER = 0xbb };
 enum { PERL_SUPERBLOCKS = 40, PERL_SLOTS = 36 }; /* at order 6 */
 
-struct block {
-    uint32_t place, bytes;
-    uint64_t seed; /* the seed of the numbers in the block's words */
-};
+int file;
+uint8_t *places;
+struct block blocks[MOST];
+uint32_t held;
+uint64_t wrong;
+sigjmp_buf on_bus_error;
 
-static int file; /* /dev/partmem: the administrator's file, or the partition's */
-static uint8_t *places;
-static struct block blocks[MOST];
-static uint32_t held;
-static uint64_t wrong;
-static sigjmp_buf on_bus_error;
-
-static struct partmem_call call(unsigned long kind, uint32_t partition, uint32_t number)
+struct partmem_call call(unsigned long kind, uint32_t partition, uint32_t number)
 {
     struct partmem_call made = {.partition = partition, .number = number};
     if (ioctl(file, kind, &made)) made.status = 1000 + errno;
     return made;
 }
 
-static uint64_t random_of(uint64_t *state)
+uint64_t random_of(uint64_t *state)
 {
     *state ^= *state << 13;
     *state ^= *state >> 7;
@@ -56,7 +41,7 @@ static uint64_t random_of(uint64_t *state)
     return *state;
 }
 
-static void die(const char *what)
+void die(const char *what)
 {
     fprintf(stderr, "init: %s: %s\n", what, strerror(errno));
     _exit(1);
@@ -64,12 +49,12 @@ static void die(const char *what)
 
 /* ---- Partitions ---------------------------------------------------------------------------------------------------------- */
 
-static void bus_error(int number)
+void bus_error(int number)
 {
     siglongjmp(on_bus_error, number);
 }
 
-static const char *touched(uint32_t place)
+const char *touched(uint32_t place)
 {
     if (sigsetjmp(on_bus_error, 1)) return "SIGBUS";
     (void)*(volatile uint8_t *)(places + place);
@@ -86,18 +71,18 @@ static uint64_t word(const struct block *block, uint32_t i)
     return (block->seed + i) * 0x9e3779b97f4a7c15u | 1;
 }
 
-static void fill(struct block *block, uint64_t seed)
+void fill(struct block *block, uint64_t seed)
 {
     block->seed = seed;
     for (uint32_t i = 0; i < block->bytes / 8; i++) words(block)[i] = word(block, i);
 }
 
-static void check(const struct block *block)
+void check(const struct block *block)
 {
     for (uint32_t i = 0; i < block->bytes / 8; i++) wrong += words(block)[i] != word(block, i);
 }
 
-static bool add(uint32_t order)
+bool add(uint32_t order)
 {
     struct partmem_call made = call(PARTMEM_IOC_ALLOC, 0, order);
     if (made.status) return false;
@@ -207,7 +192,7 @@ static void run_partition_1(int asked, int done)
 
 /* ---- The administrator ---------------------------------------------------------------------------------------------------- */
 
-static int bound_file(uint32_t partition)
+int bound_file(uint32_t partition)
 {
     const int administrator = file, bound = file = open("/dev/partmem", O_RDWR);
     if (call(PARTMEM_IOC_BIND, partition, 0).status) die("cannot bind a file");
@@ -215,9 +200,7 @@ static int bound_file(uint32_t partition)
     return bound;
 }
 
-/* Starts a process that has a file bound to a partition, and no other way to reach the partition's memory. Returns the process,
- * or 0 in the new process itself. */
-static pid_t start(uint32_t partition)
+pid_t start(uint32_t partition)
 {
     const int bound = bound_file(partition);
     const pid_t process = fork();
@@ -230,21 +213,33 @@ static pid_t start(uint32_t partition)
     signal(SIGBUS, bus_error);
     if (setgid(1000 + partition) || setuid(1000 + partition)) die("cannot be a user");
     places = mmap(NULL, PLACES, PROT_READ | PROT_WRITE, MAP_SHARED, file, 0);
-    if (places == MAP_FAILED) die("cannot map");
+    if (places == MAP_FAILED) _exit(errno); /* the partition was reset meanwhile, or has too many mappings */
     return 0;
 }
 
-static void end(pid_t process)
+void end(pid_t process)
 {
     kill(process, SIGKILL);
     waitpid(process, NULL, 0);
 }
 
+/* Opens the device for the first time, in a file system that is unmounted afterwards. */
+static void open_elsewhere(void)
+{
+    struct stat device;
+    mkdir("/elsewhere", 0700);
+    if (stat("/dev/partmem", &device) || mount("elsewhere", "/elsewhere", "tmpfs", 0, NULL)) die("no other file system");
+    if (mknod("/elsewhere/partmem", S_IFCHR | 0600, device.st_rdev)) die("no device there");
+    const int opened = open("/elsewhere/partmem", O_RDWR);
+    if (opened < 0 || close(opened) || unlink("/elsewhere/partmem") || umount("/elsewhere")) die("it cannot be unmounted");
+}
+
 static void load(const char *words)
 {
-    const int module = open("/partmem.ko", O_RDONLY);
+    const int module = open(strncmp(words, "mistake=", 8) ? "/partmem.ko" : "/mistakes.ko", O_RDONLY);
     if (syscall(SYS_finit_module, module, words, 0)) die("the module is not loaded");
     close(module);
+    open_elsewhere();
     file = open("/dev/partmem", O_RDWR);
 }
 
@@ -374,6 +369,7 @@ int main(void)
     run("quiet", "", run_quiet);
     run("noisy", "", run_noisy);
     run("perl", "order=6 superblocks=40 partitions=1", run_perl);
+    run("hostile", "", run_hostile);
     run("no unmapping at a free", "mistake=1", run_noisy);
     run("no unmapping at a move", "mistake=2", run_noisy);
     run("no unmapping at a reset", "mistake=3", run_noisy);

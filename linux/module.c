@@ -4,7 +4,10 @@
 #include <linux/miscdevice.h>
 #include <linux/mm.h>
 #include <linux/module.h>
+#include <linux/mount.h>
+#include <linux/pseudo_fs.h>
 #include <linux/slab.h>
+#include <linux/spinlock.h>
 #include <linux/uaccess.h>
 #include <linux/version.h>
 #include <linux/vmalloc.h>
@@ -13,31 +16,49 @@
 
 #include "device.h"
 
-static unsigned int order = 4, superblocks = 12, partitions = 2, mistake;
+static unsigned int order = 4, superblocks = 12, partitions = 2;
 module_param(order, uint, 0444);
 module_param(superblocks, uint, 0444);
 module_param(partitions, uint, 0444);
-module_param(mistake, uint, 0444);
 
-/* The mistakes that the parameter `mistake` plants, for the test. */
+/* The mistakes that the parameter `mistake` plants. Only a module that linux/run builds to test itself has this parameter. */
 enum { NO_UNMAP_AT_FREE = 1, NO_UNMAP_AT_MOVE, NO_UNMAP_AT_RESET, MAP_ADDRESS };
+#ifdef PARTMEM_MISTAKES
+static unsigned int mistake;
+module_param(mistake, uint, 0444);
+#else
+static const unsigned int mistake;
+#endif
+
+/* How many mappings a client may have. A call that unmaps goes through all of them under the lock, and others wait meanwhile. If a
+ * fork or a split makes more of them, which cannot be refused, FREE is refused. */
+enum { MOST_MAPS = 256 };
 
 /* Protects the library and the mappings. A page is unmapped before the call that ends its lifetime, and page faults wait until
  * the call is done (duties 8, 12). */
 static DEFINE_MUTEX(lock);
 static partmem_machine machine;
 static u8 *ram, *tables;
-static u32 unit;      /* bytes of a superblock */
-static u32 pages;     /* how many pages a partition can name */
-static u32 *bindings; /* by partition: how many resets have ended the bindings of its files (duty 13) */
+static u32 unit;  /* bytes of a superblock */
+static u32 pages; /* how many pages a partition can name */
 
-/* The inode of all mappings, by whatever path the device was opened. Page p of partition i is its page i * pages + p. */
+/* Each reset of a partition gives it a new client, and ends the bindings of its files to the old one (duty 13). The numbers of
+ * clients, also those in handles, are changed under the mutex and this lock, and read under one of them. Maps are counted under
+ * this lock only, since a process that ends counts them too, and must not wait for the mutex. */
+static DEFINE_SPINLOCK(client_lock);
+static struct client {
+	u64 number; /* at least 1; no client before had it */
+	u32 maps;   /* the mappings of files that are bound to this client */
+} *clients; /* by partition */
+
+/* The inode of all mappings, by whatever path the device was opened, in a file system of its own. */
 static struct inode *node;
+static struct vfsmount *mount;
+static int mounts;
 
 struct handle {
-	bool is_bound;
 	u32 partition;
-	u32 binding;
+	u64 client; /* the client's number, or 0 if the file is not bound */
 };
 
 static partmem_tenant tenant(u32 partition)
@@ -47,13 +68,29 @@ static partmem_tenant tenant(u32 partition)
 
 static bool is_bound(const struct handle *handle)
 {
-	return handle->is_bound && handle->binding == bindings[handle->partition];
+	return handle->client == clients[handle->partition].number;
+}
+
+static void begin_client(u32 partition)
+{
+	static u64 last;
+
+	spin_lock(&client_lock);
+	clients[partition] = (struct client){++last, 0};
+	spin_unlock(&client_lock);
+}
+
+/* Returns the page of the inode that is the client's place 0. Clients have different pages, so unmapping does not go through the
+ * mappings that a client before has left. */
+static u64 first_page(u64 client)
+{
+	return (u64)(u32)client * pages;
 }
 
 static void unmap(u32 partition, u64 place, u64 bytes, unsigned int unless)
 {
 	if (mistake != unless)
-		unmap_mapping_range(node->i_mapping, ((u64)partition * pages << PAGE_SHIFT) + place, bytes, 1);
+		unmap_mapping_range(node->i_mapping, (first_page(clients[partition].number) << PAGE_SHIFT) + place, bytes, 1);
 }
 
 /* ---- Calls, each under the lock ------------------------------------------------------------------------------------------- */
@@ -68,7 +105,7 @@ static void move(struct partmem_call *call, partmem_slot *moved)
 static void reset(struct partmem_call *call)
 {
 	unmap(call->partition, 0, (u64)pages << PAGE_SHIFT, NO_UNMAP_AT_RESET);
-	bindings[call->partition]++;
+	begin_client(call->partition);
 	call->status = partmem_reset(tenant(call->partition));
 }
 
@@ -90,12 +127,12 @@ static long call_of_administrator(unsigned int kind, struct handle *handle, stru
 		reset(call);
 		break;
 	case PARTMEM_IOC_BIND:
-		if (handle->is_bound)
+		if (handle->client)
 			return -EBUSY;
-		*handle = (struct handle){true, call->partition, bindings[call->partition]};
+		spin_lock(&client_lock);
+		*handle = (struct handle){call->partition, clients[call->partition].number};
+		spin_unlock(&client_lock);
 		break;
-	default:
-		return -ENOTTY;
 	}
 	call->slot = slot.slot;
 	call->superblock = slot.superblock;
@@ -110,6 +147,8 @@ static long call_of_partition(unsigned int kind, struct handle *handle, struct p
 		return -EBADF;
 	if (kind == PARTMEM_IOC_ALLOC) {
 		call->status = partmem_alloc(tenant(handle->partition), call->number, &block);
+	} else if (READ_ONCE(clients[handle->partition].maps) > MOST_MAPS) {
+		return -EBUSY;
 	} else {
 		if (!partmem_lend_block(tenant(handle->partition), call->number, &block) && block.place == call->number)
 			unmap(handle->partition, block.place, block.bytes, NO_UNMAP_AT_FREE);
@@ -126,13 +165,18 @@ static long device_ioctl(struct file *file, unsigned int kind, unsigned long at)
 	struct partmem_call call;
 	long status;
 
+	if (kind < PARTMEM_IOC_GRANT || kind > PARTMEM_IOC_FREE) /* they are numbered in a row */
+		return -ENOTTY;
 	if (!is_own && !capable(CAP_SYS_ADMIN))
 		return -EPERM;
+	if (kind != PARTMEM_IOC_BIND && !(file->f_mode & FMODE_WRITE))
+		return -EBADF;
 	if (copy_from_user(&call, (void __user *)at, sizeof(call)))
 		return -EFAULT;
 	if (!is_own && call.partition >= partitions)
 		return -EINVAL;
-	mutex_lock(&lock);
+	if (mutex_lock_killable(&lock))
+		return -EINTR;
 	status = is_own ? call_of_partition(kind, file->private_data, &call) : call_of_administrator(kind, file->private_data, &call);
 	mutex_unlock(&lock); /* before the copy, which may fault, and a fault takes the lock */
 	return !status && copy_to_user((void __user *)at, &call, sizeof(call)) ? -EFAULT : status;
@@ -158,9 +202,10 @@ static vm_fault_t device_fault(struct vm_fault *fault)
 	vm_fault_t status = VM_FAULT_SIGBUS;
 	u8 *at;
 
-	mutex_lock(&lock);
+	if (mutex_lock_killable(&lock))
+		return status; /* The process is being killed. If Linux copies for it, that has to end, so the fault is not tried again. */
 	if (is_bound(handle)) {
-		at = address_of(handle->partition, (u32)(fault->pgoff - handle->partition * pages) << PAGE_SHIFT);
+		at = address_of(handle->partition, (u32)(fault->pgoff - first_page(handle->client)) << PAGE_SHIFT);
 		if (at)
 			status = vmf_insert_pfn(fault->vma, fault->address, vmalloc_to_pfn(at));
 	}
@@ -168,21 +213,52 @@ static vm_fault_t device_fault(struct vm_fault *fault)
 	return status;
 }
 
-static const struct vm_operations_struct map_operations = {.fault = device_fault};
+static int count_map(const struct handle *handle, int change, u32 most)
+{
+	int status = 0;
+
+	spin_lock(&client_lock);
+	if (!is_bound(handle))
+		status = -EBADF;
+	else if (clients[handle->partition].maps >= most)
+		status = -ENOMEM;
+	else
+		clients[handle->partition].maps += change;
+	spin_unlock(&client_lock);
+	return status;
+}
+
+/* A mapping was copied, by fork or mremap, or a part of it was split off. */
+static void map_was_added(struct vm_area_struct *vma)
+{
+	count_map(vma->vm_file->private_data, 1, U32_MAX);
+}
+
+static void map_was_removed(struct vm_area_struct *vma)
+{
+	count_map(vma->vm_file->private_data, -1, U32_MAX);
+}
+
+static const struct vm_operations_struct map_operations = {
+	.open = map_was_added,
+	.close = map_was_removed,
+	.fault = device_fault,
+};
 
 static int device_mmap(struct file *file, struct vm_area_struct *vma)
 {
 	const struct handle *handle = file->private_data;
-	bool has_partition;
+	int status;
 
-	mutex_lock(&lock);
-	has_partition = is_bound(handle);
-	mutex_unlock(&lock);
-	if (!has_partition)
-		return -EBADF;
-	if (!(vma->vm_flags & VM_SHARED) || vma->vm_pgoff > pages || vma_pages(vma) > pages - vma->vm_pgoff)
+	if (vma->vm_flags & VM_EXEC)
+		return -EPERM;
+	/* A shared mapping of a file that is open only for reading has VM_MAYSHARE, but not VM_SHARED. */
+	if (!(vma->vm_flags & VM_MAYSHARE) || vma->vm_pgoff > pages || vma_pages(vma) > pages - vma->vm_pgoff)
 		return -EINVAL;
-	vma->vm_pgoff += handle->partition * pages;
+	status = count_map(handle, 1, MOST_MAPS);
+	if (status)
+		return status;
+	vma->vm_pgoff += first_page(handle->client);
 #if LINUX_VERSION_CODE >= KERNEL_VERSION(6, 3, 0)
 	vm_flags_mod(vma, VM_PFNMAP | VM_IO | VM_DONTEXPAND | VM_DONTDUMP, VM_MAYEXEC);
 #else
@@ -197,13 +273,7 @@ static int device_open(struct inode *inode, struct file *file)
 	file->private_data = kzalloc(sizeof(struct handle), GFP_KERNEL);
 	if (!file->private_data)
 		return -ENOMEM;
-	mutex_lock(&lock);
-	if (!node) {
-		ihold(inode);
-		node = inode;
-	}
 	file->f_mapping = node->i_mapping;
-	mutex_unlock(&lock);
 	return 0;
 }
 
@@ -224,25 +294,59 @@ static struct miscdevice device = {.minor = MISC_DYNAMIC_MINOR, .name = "partmem
 
 /* ---- The module ----------------------------------------------------------------------------------------------------------- */
 
+static int begin_file_system(struct fs_context *context)
+{
+	return init_pseudo(context, 0x70617274) ? 0 : -ENOMEM;
+}
+
+/* It has no owner: the module would hold itself. */
+static struct file_system_type file_system = {
+	.name = "partmem",
+	.init_fs_context = begin_file_system,
+	.kill_sb = kill_anon_super,
+};
+
+static int make_node(void)
+{
+	const int status = simple_pin_fs(&file_system, &mount, &mounts);
+
+	if (status)
+		return status;
+	node = alloc_anon_inode(mount->mnt_sb);
+	if (!IS_ERR(node))
+		return 0;
+	simple_release_fs(&mount, &mounts);
+	return PTR_ERR(node);
+}
+
+static void free_node(void)
+{
+	iput(node);
+	simple_release_fs(&mount, &mounts);
+}
+
 static void free_memory(void)
 {
 	if (ram)
 		memset(ram, 0, (size_t)superblocks * unit); /* duty 10 */
 	vfree(ram);
 	vfree(tables);
-	kfree(bindings);
+	kfree(clients);
 }
 
 static int boot(void)
 {
 	const partmem_config config = {order, superblocks, partitions};
 	partmem_memory memory;
+	u32 partition;
 
 	memory.ram = ram = vmalloc(PARTMEM_RAM_BYTES(order, superblocks));
 	memory.tables = tables = vmalloc(PARTMEM_TABLE_BYTES(order, superblocks, partitions));
-	bindings = kcalloc(partitions, sizeof(*bindings), GFP_KERNEL);
-	if (!ram || !tables || !bindings)
+	clients = kcalloc(partitions, sizeof(*clients), GFP_KERNEL);
+	if (!ram || !tables || !clients)
 		return -ENOMEM;
+	for (partition = 0; partition < partitions; partition++)
+		begin_client(partition);
 	memset(ram, 0xa5, (size_t)superblocks * unit); /* only for the test: the library does not need cleared RAM */
 	return partmem_boot_in(&machine, &config, &memory) ? -EINVAL : 0;
 }
@@ -259,13 +363,19 @@ static int __init start(void)
 	unit = PARTMEM_RAM_BYTES(order, 1);
 	pages = superblocks << order;
 	status = boot();
-	if (!status) {
-		status = misc_register(&device);
-		if (status)
-			partmem_end(&machine);
-	}
 	if (status)
-		free_memory();
+		goto not_booted;
+	status = make_node();
+	if (status)
+		goto no_node;
+	status = misc_register(&device);
+	if (!status)
+		return 0;
+	free_node();
+no_node:
+	partmem_end(&machine);
+not_booted:
+	free_memory();
 	return status;
 }
 
@@ -273,8 +383,7 @@ static int __init start(void)
 static void __exit stop(void)
 {
 	misc_deregister(&device);
-	if (node)
-		iput(node);
+	free_node();
 	partmem_end(&machine);
 	free_memory();
 }
