@@ -28,8 +28,8 @@ enum { SUPERBLOCKS = 32, TENANTS = 8, SLOTS = SUPERBLOCKS / 2, SMALL = 96, LARGE
 
 static partmem_machine machine;
 static uint32_t tenant; /* the tenant that makes the commands */
-static uint8_t buffer[PARTMEM_MOST_BYTES];
-static const uint8_t bytes[PARTMEM_MOST_BYTES];
+static uint8_t buffer[PARTMEM_MAX_BYTES];
+static const uint8_t bytes[PARTMEM_MAX_BYTES];
 
 static void fail(const char *what) {
     fprintf(stderr, "events: %s\n", what);
@@ -40,7 +40,7 @@ static void fail(const char *what) {
 static uint32_t event(uint32_t kind, uint32_t first, uint32_t second) {
     partmem_request request = {kind, tenant, first, second};
     partmem_reply reply;
-    size_t len = kind == PARTMEM_WRITE ? PARTMEM_MOST_BYTES : 1;
+    size_t len = kind == PARTMEM_WRITE ? PARTMEM_MAX_BYTES : 1;
     partmem_status status = partmem_event(&machine, &request, bytes, len, &reply, buffer, sizeof buffer);
     if (status != PARTMEM_DONE || reply.kind == PARTMEM_REFUSED) {
         fail("an event was refused");
@@ -141,7 +141,7 @@ static void run_round(const char *command, uint32_t frame) {
     } else if (!strcmp(command, "give")) {
         measured(PARTMEM_GIVE, 0, run(PARTMEM_TAKE, 0, 0));
     } else if (!strcmp(command, "read")) {
-        measured(PARTMEM_READ, FRAME_BYTES * frame, PARTMEM_MOST_BYTES);
+        measured(PARTMEM_READ, FRAME_BYTES * frame, PARTMEM_MAX_BYTES);
     } else if (!strcmp(command, "write")) {
         measured(PARTMEM_WRITE, FRAME_BYTES * frame, 0);
     } else if (!strcmp(command, "cache")) {
@@ -161,7 +161,7 @@ static void run_round(const char *command, uint32_t frame) {
     } else if (!strcmp(command, "reset")) {
         reset_another();
     } else if (is_direct && !strcmp(command, "lend")) {
-        measured(LEND, FRAME_BYTES * frame, PARTMEM_MOST_BYTES);
+        measured(LEND, FRAME_BYTES * frame, PARTMEM_MAX_BYTES);
     } else if (is_direct && !strcmp(command, "lend_object")) {
         uint32_t place = run(PARTMEM_TAKE, 0, 0);
         measured(LEND_OBJECT, 0, place);

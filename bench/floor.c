@@ -30,28 +30,28 @@
 
 enum {
     GROUP = 64, /* frames of a group: each has a bit in the group's words */
-    MOST_FRAMES = PARTMEM_MOST_SUPERBLOCKS << PARTMEM_MOST_ORDER,
-    MOST_GROUPS = MOST_FRAMES / GROUP,
+    MAX_FRAMES = PARTMEM_MAX_SUPERBLOCKS << PARTMEM_MAX_ORDER,
+    MAX_GROUPS = MAX_FRAMES / GROUP,
     FRAME_BYTES = PARTMEM_FRAME_BYTES,
     SMALL_BYTES = 512, /* slabs with smaller chunks have their record in the frame */
     RECORD_BYTES = 32,
-    MOST_SLAB_ORDER = 3
+    MAX_SLAB_ORDER = 3
 };
 
 /* ---- What is kept -------------------------------------------------------------------------------------------------------- */
 
 /* The bits of 64 frames of a tenant. A free block, a partial slab or an empty slab has its bit at its first frame. */
 struct group {
-    uint64_t free[PARTMEM_MOST_ORDER + 1]; /* by order */
-    uint64_t partial[PARTMEM_MOST_CACHES]; /* by cache */
-    uint64_t empty[PARTMEM_MOST_CACHES];
+    uint64_t free[PARTMEM_MAX_ORDER + 1]; /* by order */
+    uint64_t partial[PARTMEM_MAX_CACHES]; /* by cache */
+    uint64_t empty[PARTMEM_MAX_CACHES];
 };
 
 /* The groups in which a bit of one kind is 1. `groups` has a bit for each group, and `words` has a bit for each word of `groups`,
  * which is 1 if the word is not 0. */
 struct summary {
     uint64_t words;
-    uint64_t groups[MOST_GROUPS / 64];
+    uint64_t groups[MAX_GROUPS / 64];
 };
 
 /* What is kept for the first frame of a page block or a slab. For any other frame `taken` and `cache` are 0. */
@@ -74,26 +74,26 @@ struct cache {
     bool is_small;
     struct summary partial, empty;
     uint32_t align, colours, colour; /* `colour` is the next slab's */
-    uint8_t pattern[PARTMEM_MOST_PATTERN];
+    uint8_t pattern[PARTMEM_MAX_PATTERN];
     size_t pattern_bytes;
 };
 
 struct tenant {
     uint32_t orders; /* bit k is 1 if a block of order k is free */
-    struct summary free[PARTMEM_MOST_ORDER + 1];
-    uintptr_t base[PARTMEM_MOST_SUPERBLOCKS]; /* by slot: the address of a place minus the place; 0 if the slot is not held */
-    bool is_cleared[PARTMEM_MOST_SUPERBLOCKS];
-    struct cache *cache[PARTMEM_MOST_CACHES]; /* NULL if there is no such cache */
-    struct cache caches[PARTMEM_MOST_CACHES];
-    struct group group[MOST_GROUPS];
-    struct frame frame[MOST_FRAMES];
+    struct summary free[PARTMEM_MAX_ORDER + 1];
+    uintptr_t base[PARTMEM_MAX_SUPERBLOCKS]; /* by slot: the address of a place minus the place; 0 if the slot is not held */
+    bool is_cleared[PARTMEM_MAX_SUPERBLOCKS];
+    struct cache *cache[PARTMEM_MAX_CACHES]; /* NULL if there is no such cache */
+    struct cache caches[PARTMEM_MAX_CACHES];
+    struct group group[MAX_GROUPS];
+    struct frame frame[MAX_FRAMES];
 };
 
 struct machine {
     uint8_t *ram;
     uint32_t order, superblocks, tenants;
-    bool is_owned[PARTMEM_MOST_SUPERBLOCKS];
-    struct tenant *tenant[PARTMEM_MOST_TENANTS];
+    bool is_owned[PARTMEM_MAX_SUPERBLOCKS];
+    struct tenant *tenant[PARTMEM_MAX_TENANTS];
 };
 
 /* ---- Bits ---------------------------------------------------------------------------------------------------------------- */
@@ -232,7 +232,7 @@ RARE partmem_status clear_slot(const struct machine *machine, struct tenant *ten
 APART uint32_t reap(const struct machine *machine, struct tenant *tenant)
 {
     uint32_t frames = 0;
-    for (uint32_t number = 0; number < PARTMEM_MOST_CACHES; number++) {
+    for (uint32_t number = 0; number < PARTMEM_MAX_CACHES; number++) {
         struct cache *cache = &tenant->caches[number];
         while (cache->empty.words != 0) {
             const uint32_t group = first_group(&cache->empty);
@@ -265,7 +265,7 @@ static bool can_be_free(const struct tenant *tenant, uint32_t frame, uint32_t or
 APART bool has_block_after_reap(const struct machine *machine, const struct tenant *tenant, uint32_t order)
 {
     const uint32_t groups = ((machine->superblocks << machine->order) + GROUP - 1) / GROUP;
-    for (uint32_t number = 0; number < PARTMEM_MOST_CACHES; number++) {
+    for (uint32_t number = 0; number < PARTMEM_MAX_CACHES; number++) {
         for (uint32_t group = 0; tenant->caches[number].empty.words != 0 && group < groups; group++) {
             for (uint64_t bits = tenant->group[group].empty[number]; bits != 0; bits &= bits - 1) {
                 const uint32_t frame = group * GROUP + lowest(bits);
@@ -382,7 +382,7 @@ partmem_status partmem_free(partmem_tenant who, uint32_t place)
     const partmem_status wrong = enter(who, &machine, &tenant);
     if (wrong != PARTMEM_DONE) return wrong;
     const uint32_t frame = place / FRAME_BYTES;
-    if (place % FRAME_BYTES != 0 || frame >= MOST_FRAMES) return PARTMEM_NOT_A_BLOCK;
+    if (place % FRAME_BYTES != 0 || frame >= MAX_FRAMES) return PARTMEM_NOT_A_BLOCK;
     if (tenant->frame[frame].taken == 0 || tenant->frame[frame].cache != 0) return PARTMEM_NOT_A_BLOCK;
     return release(machine, tenant, frame);
 }
@@ -427,7 +427,7 @@ partmem_status partmem_take(partmem_tenant who, uint32_t number, partmem_lent *o
     struct tenant *tenant;
     const partmem_status wrong = enter(who, &machine, &tenant);
     if (wrong != PARTMEM_DONE) return refuse(object, wrong);
-    struct cache *cache = number < PARTMEM_MOST_CACHES ? tenant->cache[number] : NULL;
+    struct cache *cache = number < PARTMEM_MAX_CACHES ? tenant->cache[number] : NULL;
     if (cache == NULL) return refuse(object, PARTMEM_NO_CACHE);
 
     /* the slab */
@@ -467,12 +467,12 @@ partmem_status partmem_give(partmem_tenant who, uint32_t number, uint32_t place)
     struct tenant *tenant;
     const partmem_status wrong = enter(who, &machine, &tenant);
     if (wrong != PARTMEM_DONE) return wrong;
-    struct cache *cache = number < PARTMEM_MOST_CACHES ? tenant->cache[number] : NULL;
+    struct cache *cache = number < PARTMEM_MAX_CACHES ? tenant->cache[number] : NULL;
     if (cache == NULL) return PARTMEM_NO_CACHE;
 
     /* the slab */
     const uint32_t frame = place / FRAME_BYTES >> cache->order << cache->order;
-    if (frame >= MOST_FRAMES) return PARTMEM_NOT_AN_OBJECT;
+    if (frame >= MAX_FRAMES) return PARTMEM_NOT_AN_OBJECT;
     struct frame *slab = &tenant->frame[frame];
     if (slab->cache != number + 1) return PARTMEM_NOT_AN_OBJECT;
 
@@ -504,7 +504,7 @@ INLINE partmem_status lend(const struct machine *machine, struct tenant *tenant,
 {
     /* the block */
     uint32_t frame = place / FRAME_BYTES, order = 0;
-    if (frame >= MOST_FRAMES || bytes == 0) return refuse(lent, PARTMEM_OUT_OF_REACH);
+    if (frame >= MAX_FRAMES || bytes == 0) return refuse(lent, PARTMEM_OUT_OF_REACH);
     while (tenant->frame[frame].taken <= order) {
         if (order == machine->order) return refuse(lent, PARTMEM_OUT_OF_REACH);
         frame &= ~(1u << order++);
@@ -547,7 +547,7 @@ partmem_status partmem_read(partmem_tenant who, uint32_t place, void *to, size_t
     partmem_lent lent;
     partmem_status wrong = enter(who, &machine, &tenant);
     if (wrong != PARTMEM_DONE) return wrong;
-    if (bytes == 0 || bytes > PARTMEM_MOST_BYTES) return PARTMEM_BAD_LENGTH;
+    if (bytes == 0 || bytes > PARTMEM_MAX_BYTES) return PARTMEM_BAD_LENGTH;
     wrong = lend(machine, tenant, place, bytes, &lent);
     if (wrong == PARTMEM_DONE) memcpy(to, lent.at, bytes);
     return wrong;
@@ -558,7 +558,7 @@ partmem_status partmem_write(partmem_tenant who, uint32_t place, const void *fro
     struct machine *machine;
     struct tenant *tenant;
     partmem_lent lent;
-    if (bytes == 0 || bytes > PARTMEM_MOST_BYTES) return PARTMEM_NOT_AN_EVENT;
+    if (bytes == 0 || bytes > PARTMEM_MAX_BYTES) return PARTMEM_NOT_AN_EVENT;
     partmem_status wrong = enter(who, &machine, &tenant);
     if (wrong != PARTMEM_DONE) return wrong;
     wrong = lend(machine, tenant, place, bytes, &lent);
@@ -583,8 +583,8 @@ partmem_status partmem_boot(partmem_machine *machine, const partmem_config *conf
 {
     const uint32_t order = config->order, superblocks = config->superblocks, tenants = config->tenants;
     if (machine->held[0] != NULL) return PARTMEM_HAS_MACHINE;
-    if (order < PARTMEM_LEAST_ORDER || order > PARTMEM_MOST_ORDER || superblocks == 0 || superblocks > PARTMEM_MOST_SUPERBLOCKS ||
-        tenants == 0 || tenants > PARTMEM_MOST_TENANTS) {
+    if (order < PARTMEM_MIN_ORDER || order > PARTMEM_MAX_ORDER || superblocks == 0 || superblocks > PARTMEM_MAX_SUPERBLOCKS ||
+        tenants == 0 || tenants > PARTMEM_MAX_TENANTS) {
         return PARTMEM_BAD_CONFIG;
     }
     struct machine *made = machine->held[0] = calloc(1, sizeof *made);
@@ -628,7 +628,7 @@ static void set_form(struct cache *cache)
     cache->is_small = cache->chunk < SMALL_BYTES;
     uint32_t bytes = FRAME_BYTES;
     if (!cache->is_small) {
-        while (cache->order < MOST_SLAB_ORDER && bytes % cache->chunk > bytes / 8) {
+        while (cache->order < MAX_SLAB_ORDER && bytes % cache->chunk > bytes / 8) {
             cache->order++;
             bytes *= 2;
         }
@@ -648,13 +648,13 @@ partmem_status partmem_make_cache(partmem_tenant who, uint32_t size, uint32_t al
     struct tenant *tenant;
     uint32_t number = 0;
     *made = (partmem_cache){0, 0, 0, 0, 0};
-    if (pattern_bytes == 0 || pattern_bytes > PARTMEM_MOST_PATTERN) return PARTMEM_NOT_AN_EVENT;
+    if (pattern_bytes == 0 || pattern_bytes > PARTMEM_MAX_PATTERN) return PARTMEM_NOT_AN_EVENT;
     const partmem_status wrong = enter(who, &machine, &tenant);
     if (wrong != PARTMEM_DONE) return wrong;
     if (size == 0 || size > 4096) return PARTMEM_BAD_SIZE;
     if (align < 8 || align > 256 || (align & (align - 1)) != 0) return PARTMEM_BAD_ALIGN;
-    while (number < PARTMEM_MOST_CACHES && tenant->cache[number] != NULL) number++;
-    if (number == PARTMEM_MOST_CACHES) return PARTMEM_NO_CACHE_SLOT;
+    while (number < PARTMEM_MAX_CACHES && tenant->cache[number] != NULL) number++;
+    if (number == PARTMEM_MAX_CACHES) return PARTMEM_NO_CACHE_SLOT;
     struct cache *cache = tenant->cache[number] = &tenant->caches[number];
     *cache = (struct cache){.size = size, .align = align, .pattern_bytes = pattern_bytes};
     memcpy(cache->pattern, pattern, pattern_bytes);

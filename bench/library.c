@@ -32,7 +32,7 @@
 #define CALLGRIND_START_INSTRUMENTATION
 #endif
 
-enum { MOST_TENANTS = 64, FRAME_BYTES = 4096 };
+enum { MAX_TENANTS = 64, FRAME_BYTES = 4096 };
 
 /* what malloc has to do for a line */
 enum deed { NOTHING, TAKE, GIVE };
@@ -41,7 +41,7 @@ struct call {
     partmem_request request;
     const char *line;
     size_t line_len;
-    uint8_t bytes[PARTMEM_MOST_BYTES];
+    uint8_t bytes[PARTMEM_MAX_BYTES];
     size_t bytes_len;
     enum deed deed;
     size_t block; /* the number of what is taken or given back, in the order of the takes */
@@ -51,7 +51,7 @@ struct call {
 static struct call *calls;
 static size_t call_count, block_count;
 static partmem_machine machine;
-static char buffer[PARTMEM_MOST_TEXT_BYTES];
+static char buffer[PARTMEM_LINE_BUFFER_BYTES];
 
 static void check(int holds, const char *what) {
     if (!holds) {
@@ -68,7 +68,7 @@ static void *some(size_t count, size_t size) {
 
 static size_t from_hex(const char *hex, uint8_t *bytes) {
     size_t count = strlen(hex) / 2;
-    check(count <= PARTMEM_MOST_BYTES, "too many bytes in a line");
+    check(count <= PARTMEM_MAX_BYTES, "too many bytes in a line");
     for (size_t i = 0; i < count; i++) {
         char pair[3] = {hex[2 * i], hex[2 * i + 1], 0};
         bytes[i] = (uint8_t)strtoul(pair, NULL, 16);
@@ -171,8 +171,8 @@ static uint32_t place_of(const struct call *call, const struct results *results)
 /* Runs the trace once to find what each line takes or gives back. The place in a free or a give says which memory is meant. */
 static void plan(char **sizes) {
     size_t granules = ((size_t)atol(sizes[1]) << atol(sizes[0])) * FRAME_BYTES / 8;
-    uint32_t *taker[MOST_TENANTS]; /* by place / 8: the call that took what begins at the place */
-    for (size_t tenant = 0; tenant < MOST_TENANTS; tenant++) {
+    uint32_t *taker[MAX_TENANTS]; /* by place / 8: the call that took what begins at the place */
+    for (size_t tenant = 0; tenant < MAX_TENANTS; tenant++) {
         taker[tenant] = some(granules, sizeof **taker);
     }
     boot(sizes);
@@ -180,7 +180,7 @@ static void plan(char **sizes) {
         struct call *call = &calls[i];
         uint32_t tenant = call->request.tenant, kind = call->request.kind;
         struct results results;
-        check(tenant < MOST_TENANTS, "a load has no such tenant");
+        check(tenant < MAX_TENANTS, "a load has no such tenant");
         partmem_status status = run_direct(call, &results);
         check(status < PARTMEM_NO_MACHINE, "a direct call");
         if (status != PARTMEM_DONE) {
@@ -196,7 +196,7 @@ static void plan(char **sizes) {
         }
     }
     check(partmem_end(&machine) == PARTMEM_DONE, "end");
-    for (size_t tenant = 0; tenant < MOST_TENANTS; tenant++) {
+    for (size_t tenant = 0; tenant < MAX_TENANTS; tenant++) {
         free(taker[tenant]);
     }
 }
@@ -312,7 +312,7 @@ static void write_answers(uint8_t **blocks) {
         const struct call *call = &calls[i];
         struct results results;
         memset(&results, 0xee, sizeof results);
-        memset(buffer, 0, PARTMEM_MOST_BYTES);
+        memset(buffer, 0, PARTMEM_MAX_BYTES);
         const int has_block = call->deed == GIVE && blocks[call->block] != NULL;
         uint64_t all = has_block ? sum(0, blocks[call->block], call->size) : 0;
         uint32_t status = run_direct(call, &results), place = place_of(call, &results);
@@ -323,7 +323,7 @@ static void write_answers(uint8_t **blocks) {
         }
         const uint8_t is_null = results.lent.at == NULL;
         results.lent.at = NULL; /* addresses differ from run to run */
-        all = sum(sum(sum(all, &is_null, 1), &results, sizeof results), buffer, PARTMEM_MOST_BYTES);
+        all = sum(sum(sum(all, &is_null, 1), &results, sizeof results), buffer, PARTMEM_MAX_BYTES);
         all = sum_of_more(all, call, place, call->size > 0 ? (uint32_t)call->size : 8);
         printf("%u %u %u %zu %016" PRIx64 "\n", call->request.kind, status, place, call->size, all);
     }

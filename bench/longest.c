@@ -24,13 +24,13 @@
 #define CALLGRIND_STOP_INSTRUMENTATION
 #endif
 
-enum { TENANTS = 2, MOST_FRAMES = 65536, FRAME = 4096, SMALL = 24, LARGE = 3280, SOME = 64 };
+enum { TENANTS = 2, MAX_FRAMES = 65536, FRAME = 4096, SMALL = 24, LARGE = 3280, SOME = 64 };
 
 static partmem_machine machine;
 static const partmem_tenant me = {&machine, 0};
 static partmem_config config = {0, 0, TENANTS};
 static partmem_memory memory;
-static uint32_t places[MOST_FRAMES], place_count;
+static uint32_t places[MAX_FRAMES], place_count;
 static partmem_lent lent;
 
 static void must(partmem_status status)
@@ -101,7 +101,7 @@ static void fill_with_blocks(void)
 /* Makes, in each superblock, a taken frame, free frames, and an empty slab of each cache, as far as they fit. */
 static void block_all(void)
 {
-    uint32_t frames = 1u << config.order, caches = frames - 1 < PARTMEM_MOST_CACHES ? frames - 1 : PARTMEM_MOST_CACHES, kept;
+    uint32_t frames = 1u << config.order, caches = frames - 1 < PARTMEM_MAX_CACHES ? frames - 1 : PARTMEM_MAX_CACHES, kept;
     grant_all();
     make_caches(caches, FRAME);
     for (uint32_t s = 0; s < config.superblocks; s++) {
@@ -141,7 +141,7 @@ static void hold_some(void)
 static void empty_all_of_another(void) { empty_all(), make_caches(1, LARGE); }
 static void make_small(void) { grant_all(), make_caches(1, SMALL); }
 static void make_large(void) { grant_all(), make_caches(1, LARGE); }
-static void make_all(void) { grant_all(), make_caches(PARTMEM_MOST_CACHES, FRAME); }
+static void make_all(void) { grant_all(), make_caches(PARTMEM_MAX_CACHES, FRAME); }
 static void nothing(void) {}
 
 /* ---- the calls ---- */
@@ -155,7 +155,7 @@ static partmem_status reap(void)
 /* Makes 16 calls that have no case of their own, and also a take and an alloc. */
 static partmem_status others(void)
 {
-    static uint8_t bytes[PARTMEM_MOST_BYTES];
+    static uint8_t bytes[PARTMEM_MAX_BYTES];
     partmem_lent other;
     partmem_slot slot;
     partmem_cache made;

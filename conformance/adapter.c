@@ -6,7 +6,7 @@
 #include <stdlib.h>
 #include <string.h>
 
-enum { MOST_LINE = 255, MOST_WORDS = 8, MOST_TENANTS = 64, MOST_SUPERBLOCKS = 256 };
+enum { MAX_LINE = 255, MAX_WORDS = 8, MAX_TENANTS = 64, MAX_SUPERBLOCKS = 256 };
 
 static const char *const REFUSALS[] = {
     "", "NoFrames", "BadOrder", "NotABlock", "OutOfReach", "BadLength", "BadSize", "BadAlign", "NoCacheSlot",
@@ -19,15 +19,15 @@ static struct {
     bool owned;
     unsigned tenant;
     uint32_t slot;
-} owners[MOST_SUPERBLOCKS];
+} owners[MAX_SUPERBLOCKS];
 
-/* The first MOST_WORDS words of the line, and how many words it has in all. */
-static char *words[MOST_WORDS];
+/* The first MAX_WORDS words of the line, and how many words it has in all. */
+static char *words[MAX_WORDS];
 static int count;
 
 /* The arguments of a command: its numbers by position, and at most one byte string with its length. */
 static uint32_t numbers[4];
-static uint8_t bytes[MOST_BYTES];
+static uint8_t bytes[MAX_BYTES];
 static unsigned length;
 
 static bool is_number(const char *word, uint32_t *number) {
@@ -52,7 +52,7 @@ static bool is_hex(const char *word, unsigned most) {
 
 static void fault(const char *name) { printf("!> fault %s\n", name); }
 
-/* Parses the words after the actor and the command. `forms` has a letter for each: n for a number, b for up to MOST_BYTES bytes,
+/* Parses the words after the actor and the command. `forms` has a letter for each: n for a number, b for up to MAX_BYTES bytes,
  * p for a pattern. Prints a fault and returns false if there are more or fewer words, or if a word has another form. */
 static bool have_forms(const char *forms) {
     if ((size_t)count != 2 + strlen(forms)) {
@@ -61,7 +61,7 @@ static bool have_forms(const char *forms) {
     }
     for (int i = 0; forms[i]; i++) {
         bool is_right = forms[i] == 'n' ? is_number(words[2 + i], &numbers[i])
-                                        : is_hex(words[2 + i], forms[i] == 'b' ? MOST_BYTES : MOST_PATTERN);
+                                        : is_hex(words[2 + i], forms[i] == 'b' ? MAX_BYTES : MAX_PATTERN);
         if (!is_right) {
             fault(forms[i] == 'n' ? "Number" : "Hex");
             return false;
@@ -239,22 +239,22 @@ static void answer(void) {
 static bool next_line(char *line) {
     int size = 0, byte;
     while ((byte = getchar()) != EOF && byte != '\n')
-        if (size++ <= MOST_LINE)
+        if (size++ <= MAX_LINE)
             /* a zero byte would end the string; it becomes 1, which is in no valid word */
             line[size - 1] = byte == 0 ? 1 : (char)byte;
     if (byte == EOF && size == 0)
         return false;
-    if (size > 0 && size <= MOST_LINE + 1 && line[size - 1] == '\r')
+    if (size > 0 && size <= MAX_LINE + 1 && line[size - 1] == '\r')
         size--;
     count = 0;
-    if (size > MOST_LINE) {
+    if (size > MAX_LINE) {
         fault("Long");
         return true;
     }
     line[size] = '\0';
     for (char *word = line; word < line + size; count++) {
         word += strspn(word, " \t");
-        if (word < line + size && count < MOST_WORDS)
+        if (word < line + size && count < MAX_WORDS)
             words[count] = word;
         if (word >= line + size)
             break;
@@ -271,15 +271,15 @@ static unsigned size_of(const char *text) {
 }
 
 int main(int given, char **arguments) {
-    char line[MOST_LINE + 3];
+    char line[MAX_LINE + 3];
     for (int i = 1; i + 1 < given; i += 2) {
         unsigned *size = strcmp(arguments[i], "--order") == 0       ? &machine_order
                          : strcmp(arguments[i], "--superblocks") == 0 ? &superblocks
                                                                       : &tenants;
         *size = size_of(arguments[i + 1]);
     }
-    if (machine_order < 3 || machine_order > MOST_ORDER || superblocks < 1 || superblocks > MOST_SUPERBLOCKS || tenants < 1 ||
-        tenants > MOST_TENANTS || !boot(machine_order, superblocks, tenants)) {
+    if (machine_order < 3 || machine_order > MAX_ORDER || superblocks < 1 || superblocks > MAX_SUPERBLOCKS || tenants < 1 ||
+        tenants > MAX_TENANTS || !boot(machine_order, superblocks, tenants)) {
         fprintf(stderr, "usage: %s --order 3..8 --superblocks 1..256 --tenants 1..64 < TRACE\n", arguments[0]);
         return 2;
     }

@@ -8,8 +8,8 @@
  * f * FRAME_BYTES. A grant may choose any slot below 65536 that the tenant does not hold, if all its places are below
  * 2^32.
  *
- * The tenant that is passed always exists. The length of a write is 1 to MOST_BYTES, and the length of a pattern is 1 to
- * MOST_PATTERN. All other numbers may be any 32-bit numbers. The refusals of a function are listed in the order in which it has
+ * The tenant that is passed always exists. The length of a write is 1 to MAX_BYTES, and the length of a pattern is 1 to
+ * MAX_PATTERN. All other numbers may be any 32-bit numbers. The refusals of a function are listed in the order in which it has
  * to test them. A function that refuses changes nothing and returns the first refusal that applies. Otherwise it stores its
  * results and returns DONE. */
 #ifndef PARTMEM_ADAPTER_H
@@ -22,7 +22,7 @@
 extern "C" {
 #endif
 
-enum { FRAME_BYTES = 4096, MOST_BYTES = 64, MOST_PATTERN = 16, MOST_CACHES = 32, MOST_ORDER = 8 };
+enum { FRAME_BYTES = 4096, MAX_BYTES = 64, MAX_PATTERN = 16, MAX_CACHES = 32, MAX_ORDER = 8 };
 
 enum reply {
     DONE,
@@ -67,11 +67,11 @@ enum reply alloc(unsigned tenant, uint32_t order, uint32_t *frame);
 /* Frees the block that begins at the frame, and stores its order. Refusal: NOT_A_BLOCK. */
 enum reply release(unsigned tenant, uint32_t frame, unsigned *order);
 
-/* Reads `length` bytes that all lie in one block or object of the tenant. `bytes` has space for MOST_BYTES. Refusals: BAD_LENGTH
- * unless the length is 1 to MOST_BYTES, then OUT_OF_REACH. */
+/* Reads `length` bytes that all lie in one block or object of the tenant. `bytes` has space for MAX_BYTES. Refusals: BAD_LENGTH
+ * unless the length is 1 to MAX_BYTES, then OUT_OF_REACH. */
 enum reply read_bytes(unsigned tenant, uint32_t place, uint32_t length, uint8_t *bytes);
 
-/* Writes bytes that all lie in one block or object of the tenant. `length` is always 1 to MOST_BYTES. Refusal: OUT_OF_REACH. */
+/* Writes bytes that all lie in one block or object of the tenant. `length` is always 1 to MAX_BYTES. Refusal: OUT_OF_REACH. */
 enum reply write_bytes(unsigned tenant, uint32_t place, uint32_t length, const uint8_t *bytes);
 
 /* The numbers in the reply to a new cache: the cache's number, the bytes from one object to the next, the order of a slab, the
@@ -92,9 +92,9 @@ struct cache_row {
 };
 
 struct figures {
-    struct order_row orders[MOST_ORDER + 1];
+    struct order_row orders[MAX_ORDER + 1];
     unsigned caches;
-    struct cache_row rows[MOST_CACHES];
+    struct cache_row rows[MAX_CACHES];
 };
 
 /* The functions of an allocator that has caches of objects. */

@@ -12,7 +12,7 @@
 //! `f * FRAME_BYTES`. A grant may choose any slot below 65536 that the tenant does not hold, if all its places are below
 //! 2^32.
 //!
-//! The tenant that is passed always exists. A write has 1 to [`MOST_BYTES`] bytes, a pattern 1 to 16. All other numbers may be
+//! The tenant that is passed always exists. A write has 1 to [`MAX_BYTES`] bytes, a pattern 1 to 16. All other numbers may be
 //! any 32-bit numbers. The refusals of a function are listed in the order in which it has to test them. A function that refuses
 //! changes nothing and returns the first refusal that applies.
 #![allow(dead_code)]
@@ -21,9 +21,9 @@ use std::io::{self, BufRead, Write};
 use std::process::ExitCode;
 
 pub const FRAME_BYTES: u32 = 4096;
-pub const MOST_BYTES: u32 = 64;
-const MOST_LINE: usize = 255;
-const MOST_PATTERN: usize = 16;
+pub const MAX_BYTES: u32 = 64;
+const MAX_LINE: usize = 255;
+const MAX_PATTERN: usize = 16;
 
 #[derive(Clone, Copy, Debug, PartialEq, Eq)]
 pub enum Refusal {
@@ -69,9 +69,9 @@ pub trait Allocator {
     /// Frees the block that begins at the frame. Returns its order. Refusal: NotABlock.
     fn free(&mut self, tenant: u32, frame: u32) -> Result<u32, Refusal>;
     /// Returns `length` bytes that all lie in one block or object of the tenant. Refusals: BadLength unless the length is 1 to
-    /// [`MOST_BYTES`], then OutOfReach.
+    /// [`MAX_BYTES`], then OutOfReach.
     fn read(&mut self, tenant: u32, place: u32, length: u32) -> Result<Vec<u8>, Refusal>;
-    /// Writes 1 to [`MOST_BYTES`] bytes that all lie in one block or object of the tenant. Refusal: OutOfReach.
+    /// Writes 1 to [`MAX_BYTES`] bytes that all lie in one block or object of the tenant. Refusal: OutOfReach.
     fn write(&mut self, tenant: u32, place: u32, bytes: &[u8]) -> Result<(), Refusal>;
     /// Returns your caches, or `None` if your allocator has none. If it returns `None`, the commands cache, destroy, take, give,
     /// reap and report end the program, so test it with --pages.
@@ -203,7 +203,7 @@ fn arguments(forms: &str, words: &[&[u8]]) -> Result<Vec<Argument>, &'static str
     }
     let read = |(form, word): (char, &&[u8])| match form {
         'n' => number(word).map(Argument::Number).ok_or("Number"),
-        _ => hex(word, if form == 'b' { MOST_BYTES as usize } else { MOST_PATTERN }).map(Argument::Bytes).ok_or("Hex"),
+        _ => hex(word, if form == 'b' { MAX_BYTES as usize } else { MAX_PATTERN }).map(Argument::Bytes).ok_or("Hex"),
     };
     forms.chars().zip(words).map(read).collect()
 }
@@ -215,7 +215,7 @@ fn told(result: Result<String, Refusal>) -> String {
 impl<A: Allocator> Adapter<A> {
     /// Returns the reply to a line. The cases of docs/traces.md are tested in their order.
     fn answer(&mut self, line: &[u8]) -> String {
-        if line.len() > MOST_LINE {
+        if line.len() > MAX_LINE {
             return "!> fault Long\n".into();
         }
         let words: Vec<&[u8]> = line.split(|byte| matches!(byte, b' ' | b'\t')).filter(|word| !word.is_empty()).collect();

@@ -11,15 +11,15 @@ struct superblock {
     unsigned tenant;
     uint32_t slot;
     /* By frame: whether it is taken, and the order of the block that begins there, or NO_BLOCK. */
-    bool taken[1 << MOST_ORDER];
-    uint8_t order[1 << MOST_ORDER];
-    uint8_t bytes[FRAME_BYTES << MOST_ORDER];
+    bool taken[1 << MAX_ORDER];
+    uint8_t order[1 << MAX_ORDER];
+    uint8_t bytes[FRAME_BYTES << MAX_ORDER];
 };
 
 static struct superblock *all;
 static unsigned frames, count;
 /* By tenant and order, the first frame of the block that was freed last; at first 0. */
-static uint32_t (*last)[MOST_ORDER + 1];
+static uint32_t (*last)[MAX_ORDER + 1];
 
 static void vacate(struct superblock *of) {
     of->tenant = NOBODY;
@@ -104,9 +104,9 @@ static struct superblock *choose(unsigned tenant, uint32_t order, unsigned *at) 
 
 enum reply alloc(unsigned tenant, uint32_t order, uint32_t *frame) {
     unsigned at;
-    struct superblock *of = order > MOST_ORDER || 1u << order > frames ? NULL : choose(tenant, order, &at);
+    struct superblock *of = order > MAX_ORDER || 1u << order > frames ? NULL : choose(tenant, order, &at);
     if (of == NULL)
-        return order > MOST_ORDER || 1u << order > frames ? BAD_ORDER : NO_FRAMES;
+        return order > MAX_ORDER || 1u << order > frames ? BAD_ORDER : NO_FRAMES;
     memset(of->taken + at, true, 1u << order);
     of->order[at] = (uint8_t)order;
     *frame = of->slot * frames + at;
@@ -138,8 +138,8 @@ static uint8_t *reach(unsigned tenant, uint32_t place, uint32_t length) {
 
 enum reply read_bytes(unsigned tenant, uint32_t place, uint32_t length, uint8_t *bytes) {
     const uint8_t *from = reach(tenant, place, length);
-    if (length < 1 || length > MOST_BYTES || from == NULL)
-        return length < 1 || length > MOST_BYTES ? BAD_LENGTH : OUT_OF_REACH;
+    if (length < 1 || length > MAX_BYTES || from == NULL)
+        return length < 1 || length > MAX_BYTES ? BAD_LENGTH : OUT_OF_REACH;
     memcpy(bytes, from, length);
     return DONE;
 }

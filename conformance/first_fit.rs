@@ -2,7 +2,7 @@
 //! when it is given up. There are no caches.
 mod adapter;
 
-use adapter::{Allocator, Refusal, Sizes, FRAME_BYTES, MOST_BYTES};
+use adapter::{Allocator, Refusal, Sizes, FRAME_BYTES, MAX_BYTES};
 use std::process::ExitCode;
 
 struct Superblock {
@@ -111,7 +111,7 @@ impl Allocator for FirstFit {
     }
 
     fn read(&mut self, tenant: u32, place: u32, length: u32) -> Result<Vec<u8>, Refusal> {
-        if !(1..=MOST_BYTES).contains(&length) {
+        if !(1..=MAX_BYTES).contains(&length) {
             return Err(Refusal::BadLength);
         }
         let (superblock, at) = self.reach(tenant, place, length)?;

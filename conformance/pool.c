@@ -13,8 +13,8 @@ struct slot {
     uint8_t *memory; /* the pool's part of it, aligned to its size */
     struct pool *pool;
     /* by frame: whether it is taken, and the order of the block that begins there, or NO_BLOCK */
-    bool taken[1 << MOST_ORDER];
-    uint8_t order[1 << MOST_ORDER];
+    bool taken[1 << MAX_ORDER];
+    uint8_t order[1 << MAX_ORDER];
 };
 
 static unsigned machine_order, frames, count;
@@ -154,8 +154,8 @@ static uint8_t *reach(unsigned tenant, uint32_t place, uint32_t length) {
 
 enum reply read_bytes(unsigned tenant, uint32_t place, uint32_t length, uint8_t *bytes) {
     const uint8_t *from = reach(tenant, place, length);
-    if (length < 1 || length > MOST_BYTES || from == NULL)
-        return length < 1 || length > MOST_BYTES ? BAD_LENGTH : OUT_OF_REACH;
+    if (length < 1 || length > MAX_BYTES || from == NULL)
+        return length < 1 || length > MAX_BYTES ? BAD_LENGTH : OUT_OF_REACH;
     memcpy(bytes, from, length);
     return DONE;
 }

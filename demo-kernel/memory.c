@@ -69,7 +69,7 @@ static partmem_status alloc_without_lend(unsigned t, uint32_t order, partmem_len
     const partmem_request request = {PARTMEM_ALLOC, t, order, 0};
     partmem_reply reply;
     partmem_slot slot;
-    static uint8_t buffer[PARTMEM_MOST_BYTES];
+    static uint8_t buffer[PARTMEM_MAX_BYTES];
     must(partmem_event(&machine, &request, "", 0, &reply, buffer, sizeof buffer));
     if (reply.kind == PARTMEM_REFUSED) return (partmem_status)reply.first;
     block->place = reply.first * FRAME, block->bytes = (uint32_t)FRAME << order;
@@ -153,7 +153,7 @@ void store_in_object(unsigned t, uint32_t cache, uint32_t place, uint32_t offset
 {
     partmem_lent object;
     must(partmem_lend_object(tenant_of(t), cache, place, &object));
-    if (bytes > PARTMEM_MOST_BYTES || offset > object.bytes || bytes > object.bytes - offset) panic("a store beyond an object");
+    if (bytes > PARTMEM_MAX_BYTES || offset > object.bytes || bytes > object.bytes - offset) panic("a store beyond an object");
     memcpy((uint8_t *)object.at + offset, from, bytes);
     print("%u write %u ", t, place + offset);
     print_bytes(from, bytes);

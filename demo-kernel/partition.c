@@ -13,7 +13,7 @@ struct endpoint {
     uint64_t words[7];
 };
 
-enum { THREAD_CACHE, ENDPOINT_CACHE, MOST_COUNTS = 1024 };
+enum { THREAD_CACHE, ENDPOINT_CACHE, MAX_COUNTS = 1024 };
 
 /* What the kernel keeps of a thread. The kernel saves registers at times that depend on other partitions, so it saves them here,
  * and not in the thread's object. */
@@ -33,12 +33,12 @@ static struct {
 static unsigned current;
 uint64_t ticks;
 
-/* For each of the first MOST_COUNTS system calls of partition 0: the instructions of the whole call, and of the call without its
+/* For each of the first MAX_COUNTS system calls of partition 0: the instructions of the whole call, and of the call without its
  * printing. */
 static struct {
     const char *name;
     uint64_t all, quiet;
-} counts[MOST_COUNTS];
+} counts[MAX_COUNTS];
 static unsigned count;
 
 extern const uint64_t user_entries[];
@@ -259,7 +259,7 @@ static void system_call(struct context *context, uint64_t begin)
     if (call == CALL_RECEIVE && turn_of(current) != context) print("# %u: receive waits\n", current);
     else if (result == REFUSED) print("# %u: %s refused\n", current, names[call]);
     else if (call != CALL_SAY) print("# %u: %s returns %lu\n", current, names[call], result);
-    if (current || count == MOST_COUNTS) return;
+    if (current || count == MAX_COUNTS) return;
     uint64_t all = stamp() - begin;
     counts[count].name = names[call];
     counts[count].all = all;

@@ -26,7 +26,7 @@ static void check(int holds, const char *what) {
 }
 
 static void run_lines(partmem_machine *machine, FILE *trace) {
-    static char buffer[PARTMEM_MOST_TEXT_BYTES];
+    static char buffer[PARTMEM_LINE_BUFFER_BYTES];
     char *line = NULL;
     size_t size = 0, written = 0;
     ssize_t len;

@@ -30,7 +30,7 @@ public:
 
 private:
     partmem_machine machine = {};
-    std::vector<char> buffer = std::vector<char>(PARTMEM_MOST_TEXT_BYTES);
+    std::vector<char> buffer = std::vector<char>(PARTMEM_LINE_BUFFER_BYTES);
 };
 
 // An object of a cache, of type T. The destructor gives it back.

@@ -32,7 +32,7 @@ static const unsigned int mistake;
 
 /* How many mappings a client may have. A call that unmaps goes through all of them under the lock, and others wait meanwhile. If a
  * fork or a split makes more of them, which cannot be refused, FREE is refused. */
-enum { MOST_MAPS = 256 };
+enum { MAX_MAPS = 256 };
 
 /* Protects the library and the mappings. A page is unmapped before the call that ends its lifetime, and page faults wait until
  * the call is done (duties 8, 12). */
@@ -147,7 +147,7 @@ static long call_of_partition(unsigned int kind, struct handle *handle, struct p
 		return -EBADF;
 	if (kind == PARTMEM_IOC_ALLOC) {
 		call->status = partmem_alloc(tenant(handle->partition), call->number, &block);
-	} else if (READ_ONCE(clients[handle->partition].maps) > MOST_MAPS) {
+	} else if (READ_ONCE(clients[handle->partition].maps) > MAX_MAPS) {
 		return -EBUSY;
 	} else {
 		if (!partmem_lend_block(tenant(handle->partition), call->number, &block) && block.place == call->number)
@@ -255,7 +255,7 @@ static int device_mmap(struct file *file, struct vm_area_struct *vma)
 	/* A shared mapping of a file that is open only for reading has VM_MAYSHARE, but not VM_SHARED. */
 	if (!(vma->vm_flags & VM_MAYSHARE) || vma->vm_pgoff > pages || vma_pages(vma) > pages - vma->vm_pgoff)
 		return -EINVAL;
-	status = count_map(handle, 1, MOST_MAPS);
+	status = count_map(handle, 1, MAX_MAPS);
 	if (status)
 		return status;
 	vma->vm_pgoff += first_page(handle->client);
@@ -357,8 +357,8 @@ static int __init start(void)
 
 	if (partmem_version() / 10000 != PARTMEM_VERSION / 10000 || !boot_cpu_has(X86_FEATURE_POPCNT))
 		return -ENODEV; /* the library requires x86-64-v2 */
-	if (order < PARTMEM_LEAST_ORDER || order > PARTMEM_MOST_ORDER || superblocks < 1 || superblocks > PARTMEM_MOST_SUPERBLOCKS ||
-	    partitions < 1 || partitions > PARTMEM_MOST_TENANTS)
+	if (order < PARTMEM_MIN_ORDER || order > PARTMEM_MAX_ORDER || superblocks < 1 || superblocks > PARTMEM_MAX_SUPERBLOCKS ||
+	    partitions < 1 || partitions > PARTMEM_MAX_TENANTS)
 		return -EINVAL;
 	unit = PARTMEM_RAM_BYTES(order, 1);
 	pages = superblocks << order;

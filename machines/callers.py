@@ -7,8 +7,8 @@ import time
 
 import summary
 
-MOST_ROWS, MOST_LOOKED_UP, MOST_CHARACTERS = 20, 1000, 80
-MOST_SECONDS, MOST_BYTES = 60, 1 << 32  # the time for all runs of addr2line together; the size of a file that it reads
+MAX_ROWS, MAX_LOOKED_UP, MAX_CHARACTERS = 20, 1000, 80
+MAX_SECONDS, MAX_BYTES = 60, 1 << 32  # the time for all runs of addr2line together; the size of a file that it reads
 
 
 class Calls:
@@ -62,8 +62,8 @@ class Callers:
 
 def is_plain(path):
     """Returns whether addr2line may read this path. A log can name any path, so only a regular file with an absolute path is
-    allowed. It must not be empty, as files of /proc are, or larger than MOST_BYTES."""
-    return os.path.isabs(path) and os.path.isfile(path) and 0 < os.path.getsize(path) <= MOST_BYTES
+    allowed. It must not be empty, as files of /proc are, or larger than MAX_BYTES."""
+    return os.path.isabs(path) and os.path.isfile(path) and 0 < os.path.getsize(path) <= MAX_BYTES
 
 
 def functions(path, offsets, seconds):
@@ -89,15 +89,15 @@ def name_of(caller, function):
     if caller is None:
         return 'unknown'
     path, offset = caller
-    name = os.path.basename(path)[:MOST_CHARACTERS]
-    return f'{function[:MOST_CHARACTERS]} ({name})' if function not in (None, '', '??') else f'{name}+{offset:x}'
+    name = os.path.basename(path)[:MAX_CHARACTERS]
+    return f'{function[:MAX_CHARACTERS]} ({name})' if function not in (None, '', '??') else f'{name}+{offset:x}'
 
 
 def by_name(rows):
     """Returns (bytes, blocks, name) for each name, most bytes first. All callers in one function have the same name. Only the
-    first MOST_LOOKED_UP callers are looked up by addr2line."""
-    offsets, end = collections.defaultdict(list), time.monotonic() + MOST_SECONDS
-    for _, _, caller in rows[:MOST_LOOKED_UP]:
+    first MAX_LOOKED_UP callers are looked up by addr2line."""
+    offsets, end = collections.defaultdict(list), time.monotonic() + MAX_SECONDS
+    for _, _, caller in rows[:MAX_LOOKED_UP]:
         if caller:
             offsets[caller[0]].append(caller[1])
     known = {path: functions(path, some, end - time.monotonic()) for path, some in offsets.items()}
@@ -110,10 +110,10 @@ def by_name(rows):
 
 
 def tell(callers):
-    """Prints a row for each of the MOST_ROWS names with the most bytes at the peak, and one for all others together."""
+    """Prints a row for each of the MAX_ROWS names with the most bytes at the peak, and one for all others together."""
     rows = by_name(callers.at_peak())
     summary.heading(f'when most bytes were live, {callers.most} of them: bytes and allocations by the caller of malloc')
-    shown, rest = rows[:MOST_ROWS], rows[MOST_ROWS:]
+    shown, rest = rows[:MAX_ROWS], rows[MAX_ROWS:]
     if rest:
         shown.append((sum(size for size, _, _ in rest), sum(count for _, count, _ in rest), f'{len(rest)} others'))
     for size, count, name in shown:

@@ -13,8 +13,8 @@ BELOW, FREE_BELOW = 18, 40              # from the foot of a band down to the nu
 MARKS_BELOW, MARK_HEIGHT = 4, 9         # how far below the rows the marks of refusals are, and their height
 INDENT = 12                             # the indent of a band's figures, which are right of the word above the band's axis
 BYTES_RIGHT = 22                        # where the numbers of bytes end
-MOST_NAME = 64                          # characters of a name; a longer one is cut
-MOST_TITLES, LEAST_WIDTH, LEAST_HEIGHT = 1500, 3, 3     # the most rectangles with a title; their least size in pixels
+MAX_NAME = 64                          # characters of a name; a longer one is cut
+MAX_TITLES, MIN_WIDTH, MIN_HEIGHT = 1500, 3, 3     # the most rectangles with a title; their least size in pixels
 KINDS = {'page': 'page blocks', 'full': 'full slabs', 'partial': 'partial slabs', 'empty': 'empty slabs', 'free': 'free',
          'none': 'not held'}
 SHARES = {'one': 'up to a quarter', 'two': 'up to half', 'three': 'up to three quarters', '': 'more than three quarters'}
@@ -43,7 +43,7 @@ class Labels:
 
     def short(self, tenant):
         name = self.name_of(tenant)
-        return name if len(name) <= MOST_NAME else name[:MOST_NAME] + '…'
+        return name if len(name) <= MAX_NAME else name[:MAX_NAME] + '…'
 
 
 class Band:
@@ -63,7 +63,7 @@ class Band:
         column, _, columns, rows = rectangle
         width = self.labels.axis.edges[column + columns] - self.labels.axis.edges[column]
         height = rows * self.row_height
-        return width * height if width >= LEAST_WIDTH and height >= LEAST_HEIGHT else 0
+        return width * height if width >= MIN_WIDTH and height >= MIN_HEIGHT else 0
 
     def title(self, kind, shade, rectangle):
         """Returns the title of a rectangle: the tenant, the frames and the lines, and the kind of the frames."""
@@ -171,9 +171,9 @@ class Band:
 
 
 def titled_in(bands):
-    """Returns the rectangles that get titles, each with its tenant: the MOST_TITLES largest ones of all bands."""
+    """Returns the rectangles that get titles, each with its tenant: the MAX_TITLES largest ones of all bands."""
     found = [(band.area(it), band.tenant, it) for band in bands for _, _, rectangles in band.paths for it in rectangles]
-    largest = sorted((it for it in found if it[0]), reverse=True)[:MOST_TITLES]
+    largest = sorted((it for it in found if it[0]), reverse=True)[:MAX_TITLES]
     return {(tenant, it) for _, tenant, it in largest}
 
 

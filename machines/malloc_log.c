@@ -45,7 +45,7 @@ void *__libc_memalign(size_t alignment, size_t bytes);
 void __libc_free(void *old);
 
 #define VARIABLE "MALLOC_LOG"
-enum { WINDOW_BYTES = 1 << 16, PAGE_BYTES = 1 << 12, PATH_BYTES = 4096, NAME_BYTES = 200, MOST_FILES = 1000 };
+enum { WINDOW_BYTES = 1 << 16, PAGE_BYTES = 1 << 12, PATH_BYTES = 4096, NAME_BYTES = 200, MAX_FILES = 1000 };
 
 /* A fork handler of another library may allocate while this is held, so it is recursive. */
 static pthread_mutex_t lock = PTHREAD_RECURSIVE_MUTEX_INITIALIZER_NP;
@@ -58,7 +58,7 @@ static char own_file[PATH_BYTES]; /* the path of the program's file */
 static struct {
     uintptr_t load;
     uint64_t name; /* a hash of the path */
-} files[MOST_FILES]; /* the loaded files that this log has named */
+} files[MAX_FILES]; /* the loaded files that this log has named */
 static int file_count;
 static char *window;       /* the part of the log that is being written, or NULL before the first line */
 static off_t window_start; /* its offset in the file */
@@ -181,7 +181,7 @@ static size_t end_line(char *line)
     return length + 1;
 }
 
-/* Returns the number of the file that is loaded at `load`, or -1 if it has none and MOST_FILES files have one. When a file gets
+/* Returns the number of the file that is loaded at `load`, or -1 if it has none and MAX_FILES files have one. When a file gets
    its number, a line of the log says so. */
 static int file_of(uintptr_t load, const char *loaded)
 {
@@ -192,7 +192,7 @@ static int file_of(uintptr_t load, const char *loaded)
     for (int file = 0; file < file_count; file++)
         if (files[file].load == load && files[file].name == sum)
             return file;
-    if (file_count == MOST_FILES)
+    if (file_count == MAX_FILES)
         return -1;
     files[file_count].load = load;
     files[file_count].name = sum;

@@ -1,8 +1,8 @@
 'use strict'
 
-const LEAST_DRAG = 4 // pixels of the picture: less is a click
+const MIN_DRAG = 4 // pixels of the picture: less is a click
 const PLAY_SECONDS = 12
-const MOST_TICKS = 10
+const MAX_TICKS = 10
 const TINY = 1e-6
 // Pixels from the foot of a band up to the words above its free frames, and down to the numbers of its lines.
 const ABOVE_FOOT = 61
@@ -108,10 +108,10 @@ function moveCursor(place) {
 
 const middleOf = (column) => (facts.edges[column] + facts.edges[column + 1]) / 2
 
-/** Returns the least number of the form 1, 2 or 5 times a power of ten that fits at most MOST_TICKS times into a length. */
+/** Returns the least number of the form 1, 2 or 5 times a power of ten that fits at most MAX_TICKS times into a length. */
 function stepOf(length) {
-  const power = 10 ** Math.floor(Math.log10(length / MOST_TICKS))
-  return [1, 2, 5, 10].map((round) => round * power).find((step) => length <= MOST_TICKS * step)
+  const power = 10 ** Math.floor(Math.log10(length / MAX_TICKS))
+  return [1, 2, 5, 10].map((round) => round * power).find((step) => length <= MAX_TICKS * step)
 }
 
 function drawTicks(band) {
@@ -207,7 +207,7 @@ picture.addEventListener('pointerup', (event) => {
   const [from, to] = [drag, insideX(pointOf(event).x)].sort((a, b) => a - b)
   drag = null
   for (const band of bands) band.chosen.setAttribute('width', 0)
-  if (to - from >= LEAST_DRAG) showView(placeAt(from), placeAt(to))
+  if (to - from >= MIN_DRAG) showView(placeAt(from), placeAt(to))
 })
 
 picture.addEventListener('dblclick', () => showView(0, WIDTH))

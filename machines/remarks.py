@@ -46,7 +46,7 @@ class Remarks:
     def __init__(self, path):
         self.sizes, self.names, self.clock = None, {}, Clock()
         for at, line in enumerate(lines_of(path), 1):
-            if line.startswith(b'# ') and len(line.rstrip(b'\r\n')) <= tenants.MOST_BYTES:
+            if line.startswith(b'# ') and len(line.rstrip(b'\r\n')) <= tenants.MAX_BYTES:
                 self.read(path, at, line.decode(errors='replace').rstrip('\r\n'))
 
     def read(self, path, at, line):

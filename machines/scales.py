@@ -3,7 +3,7 @@ import tenants
 from summary import FRAME
 
 WIDTH = 1200        # how wide all columns are together, in pixels
-MOST_TICKS = 10     # the most steps from one number to the next on an axis
+MAX_TICKS = 10     # the most steps from one number to the next on an axis
 PARTS = 100         # places on an axis of time are rounded to 1/PARTS pixel
 
 
@@ -27,11 +27,11 @@ class Unit:
 
 
 def step_of(whole):
-    """Returns the least number of the form 1, 2 or 5 times a power of ten that fits at most MOST_TICKS times into `whole`."""
+    """Returns the least number of the form 1, 2 or 5 times a power of ten that fits at most MAX_TICKS times into `whole`."""
     power = -9
     while True:
         for step in (1, 2, 5):
-            if whole <= MOST_TICKS * step * 10.0**power:
+            if whole <= MAX_TICKS * step * 10.0**power:
                 return step * 10.0**power
         power += 1
 

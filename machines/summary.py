@@ -4,8 +4,8 @@ time than this tenant had."""
 import collections
 import sys
 
-FRAME, MOST_SUPERBLOCKS = 4096, 256
-LEAST_BITS, MOST_COLUMNS = 4, 40    # the first row of sizes is up to 2^4 bytes; the longest bar has 40 columns
+FRAME, MAX_SUPERBLOCKS = 4096, 256
+MIN_BITS, MAX_COLUMNS = 4, 40    # the first row of sizes is up to 2^4 bytes; the longest bar has 40 columns
 
 
 def plural(noun, count):
@@ -84,7 +84,7 @@ def tell_used(used, refused, order):
 
 def bits(size):
     """Returns the exponent of the least power of two that is at least a size. Sizes up to 16 count as 16."""
-    return max((size - 1).bit_length(), LEAST_BITS)
+    return max((size - 1).bit_length(), MIN_BITS)
 
 
 def tell_sizes(sizes):
@@ -93,10 +93,10 @@ def tell_sizes(sizes):
     if not sizes:
         return
     heading('requested sizes, in bytes')
-    names = {size: f'of {2**(size - 1) + 1 if size > LEAST_BITS else 0} to {2**size}' for size in sorted(sizes)}
+    names = {size: f'of {2**(size - 1) + 1 if size > MIN_BITS else 0} to {2**size}' for size in sorted(sizes)}
     width, most = max(map(len, names.values())), max(sizes.values())
     for size, name in names.items():
-        row(sizes[size], f'{name:<{width}} ' + '#' * max(round(MOST_COLUMNS * sizes[size] / most), 1))
+        row(sizes[size], f'{name:<{width}} ' + '#' * max(round(MAX_COLUMNS * sizes[size] / most), 1))
 
 
 def tell_needs(blocks, order):
@@ -107,7 +107,7 @@ def tell_needs(blocks, order):
     row(frames, f'{plural("frame", frames)} {"holds" if frames == 1 else "hold"} them')
     for block in sorted({block for block, _ in blocks}):
         needed = (frames - 2**block) // 2**(order - block) + 1
-        if needed <= MOST_SUPERBLOCKS:
+        if needed <= MAX_SUPERBLOCKS:
             row(needed, f'{"superblock is" if needed == 1 else "superblocks are"} enough for blocks of order {block}')
         else:
             row('', f'blocks of order {block}: in the worst case more superblocks than a machine has')

@@ -14,14 +14,14 @@ import zlib
 
 import built
 import summary
-from summary import FRAME, MOST_SUPERBLOCKS, visible
+from summary import FRAME, MAX_SUPERBLOCKS, visible
 
 GREATEST_OBJECT = 4096
 CACHES = 32
-ORDERS, MOST_TENANTS = range(3, 9), 64
-MOST_CHARACTERS = 1 << 17   # of a line; malloc_log.c leaves up to half as many zeroes after the last line
-MOST_BYTES, BYTES_BEGUN = 255, 100  # the most bytes of a line of a trace; the bytes of a too long name that come before its cut
-SECOND, MOST_TIMES = 10**9, 100     # a second in nanoseconds; about how many remarks of the time a trace has at most
+ORDERS, MAX_TENANTS = range(3, 9), 64
+MAX_CHARACTERS = 1 << 17   # of a line; malloc_log.c leaves up to half as many zeroes after the last line
+MAX_BYTES, BYTES_BEGUN = 255, 100  # the most bytes of a line of a trace; the bytes of a too long name that come before its cut
+SECOND, MAX_TIMES = 10**9, 100     # a second in nanoseconds; about how many remarks of the time a trace has at most
 AGAIN = 'given again without a free between: given back first'
 
 
@@ -50,28 +50,28 @@ def checked(given):
     --largest, replaces the logs by the largest ones."""
     if given.order not in ORDERS:
         fail(f'--order {given.order}: the order of a superblock is {ORDERS[0]} to {ORDERS[-1]}', 2)
-    if not 1 <= given.superblocks <= MOST_SUPERBLOCKS:
-        fail(f'--superblocks {given.superblocks}: a machine has 1 to {MOST_SUPERBLOCKS} superblocks', 2)
+    if not 1 <= given.superblocks <= MAX_SUPERBLOCKS:
+        fail(f'--superblocks {given.superblocks}: a machine has 1 to {MAX_SUPERBLOCKS} superblocks', 2)
     if given.largest is not None:
-        if not 1 <= given.largest <= MOST_TENANTS:
-            fail(f'--largest {given.largest}: a machine has 1 to {MOST_TENANTS} tenants', 2)
+        if not 1 <= given.largest <= MAX_TENANTS:
+            fail(f'--largest {given.largest}: a machine has 1 to {MAX_TENANTS} tenants', 2)
         given.logs = largest(given.logs, given.largest)
-    if len(given.logs) > MOST_TENANTS:
-        fail(f'{len(given.logs)} logs: each is a tenant, and a machine has at most {MOST_TENANTS}. Convert fewer of them, '
+    if len(given.logs) > MAX_TENANTS:
+        fail(f'{len(given.logs)} logs: each is a tenant, and a machine has at most {MAX_TENANTS}. Convert fewer of them, '
              'or the largest by --largest N', 2)
     given.partmem = given.partmem or built.program(own_name(), 'partmem') or fail(f'there is no partmem: {built.HOW}')
     return given
 
 
 def size_of_text(path):
-    """Returns the size of a file in bytes, not counting up to MOST_CHARACTERS zeroes at its end; or 0 if it is no
+    """Returns the size of a file in bytes, not counting up to MAX_CHARACTERS zeroes at its end; or 0 if it is no
     regular file."""
     status = os.stat(path)
     if not stat.S_ISREG(status.st_mode):
         return 0
     with open(path, 'rb') as file:
-        file.seek(max(status.st_size - MOST_CHARACTERS, 0))
-        return file.tell() + len(file.read(MOST_CHARACTERS).rstrip(b'\0'))
+        file.seek(max(status.st_size - MAX_CHARACTERS, 0))
+        return file.tell() + len(file.read(MAX_CHARACTERS).rstrip(b'\0'))
 
 
 def files_of(path):
@@ -96,11 +96,11 @@ def reason(problem):
 
 
 def lines_in(file, path):
-    """Yields (number, line) for each line of a file. Fails at a line of more than MOST_CHARACTERS characters, before all of it is
+    """Yields (number, line) for each line of a file. Fails at a line of more than MAX_CHARACTERS characters, before all of it is
     read into memory."""
-    for at, line in enumerate(iter(lambda: file.readline(MOST_CHARACTERS + 1), ''), 1):
-        if len(line) > MOST_CHARACTERS:
-            fail(f'{path} line {at}: it has more than {MOST_CHARACTERS} characters')
+    for at, line in enumerate(iter(lambda: file.readline(MAX_CHARACTERS + 1), ''), 1):
+        if len(line) > MAX_CHARACTERS:
+            fail(f'{path} line {at}: it has more than {MAX_CHARACTERS} characters')
         yield at, line
 
 
@@ -144,18 +144,18 @@ def cannot_write(problem, what):
 def remark(number, name):
     """Returns the comment line of a trace that names a tenant. If the name is too long for a line, its middle is left out."""
     begin, shown = f'# tenant {number} is ', visible(name).encode()
-    most = MOST_BYTES - len(begin)
+    most = MAX_BYTES - len(begin)
     if len(shown) > most:
         shown = shown[:BYTES_BEGUN] + b'..' + shown[BYTES_BEGUN + 2 - most:]
     return begin + shown.decode(errors='ignore')
 
 
 def interval_of(time):
-    """Returns the least of 1, 2, 5, 10, 20 .. nanoseconds that fits at most MOST_TIMES times into this time."""
+    """Returns the least of 1, 2, 5, 10, 20 .. nanoseconds that fits at most MAX_TIMES times into this time."""
     unit = 1
     while True:
         for interval in unit, 2 * unit, 5 * unit:
-            if time <= MOST_TIMES * interval:
+            if time <= MAX_TIMES * interval:
                 return interval
         unit *= 10
 
@@ -406,7 +406,7 @@ class Tenant:
 
 def larger(given):
     """Returns the words that name the options of a larger machine, or no words if there is no larger one."""
-    more = 'more --superblocks, ' if given.superblocks < MOST_SUPERBLOCKS else ''
+    more = 'more --superblocks, ' if given.superblocks < MAX_SUPERBLOCKS else ''
     return more + ('a larger --order, ' if given.order < ORDERS[-1] else '')
 
 

@@ -6,7 +6,7 @@ import glob
 import re
 import sys
 
-LIMITS = "FRAME_BYTES LEAST_ORDER MOST_ORDER MOST_SUPERBLOCKS MOST_TENANTS MOST_CACHES MOST_PATTERN MOST_BYTES".split()
+LIMITS = "FRAME_BYTES MIN_ORDER MAX_ORDER MAX_SUPERBLOCKS MAX_TENANTS MAX_CACHES MAX_PATTERN MAX_BYTES".split()
 # Maps types of Rust to types of C.
 TYPES = {"u32": "uint32_t", "usize": "size_t", "bool": "uint32_t", "*mut u8": "void *"}
 # Maps names of fields in Rust to other names in C.
@@ -152,7 +152,7 @@ def plain(structs, limits):
 
 def length(text, limits):
     """Returns the length of an array, which is a sum of numbers, limits, and constants of the source that follow from limits."""
-    names = {"ORDERS": limits["MOST_ORDER"] + 1, "CACHES": limits["MOST_CACHES"], **limits}
+    names = {"ORDERS": limits["MAX_ORDER"] + 1, "CACHES": limits["MAX_CACHES"], **limits}
     return sum(int(names.get(part.removeprefix("PARTMEM_"), part)) for part in text.split(" + "))
 
 
@@ -169,10 +169,10 @@ def numbers_of_source():
     for number, name in enumerate(re.findall(r"(\w+)(?: = 1)?,", refusals), 1):
         yield snake(name), number
     limits = dict(re.findall(r"pub const (\w+): \w+ = (\d+);", read("crates/model_core/src/limits.rt", r"//[^\n]*")))
-    row = re.search(r"const MOST_REPLY_BYTES: \w+ = (\d+);", read("crates/words_core/src/text.rt", r"//[^\n]*"))[1]
+    row = re.search(r"const MAX_REPLY_BYTES: \w+ = (\d+);", read("crates/words_core/src/text.rt", r"//[^\n]*"))[1]
     for name in LIMITS:
         yield name, int(limits[name])
-    yield "MOST_TEXT_BYTES", (1 + int(limits["MOST_SUPERBLOCKS"])) * int(row)
+    yield "LINE_BUFFER_BYTES", (1 + int(limits["MAX_SUPERBLOCKS"])) * int(row)
 
 
 def by_name(what, pairs):

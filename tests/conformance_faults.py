@@ -47,8 +47,8 @@ LISTS = [
         ('length < 1 || ',
          '')]),
     Fault('bounds', 'a read of 64 bytes is refused', 'Refusals', [
-        ('length > MOST_BYTES',
-         'length >= MOST_BYTES')]),
+        ('length > MAX_BYTES',
+         'length >= MAX_BYTES')]),
     Fault('bounds', 'the order is cut to a byte', 'Refusals', [
         ('    if (order > top)',
          '    if ((uint8_t)order > top)')]),
@@ -251,14 +251,14 @@ SLABS = [
         ('left > right ? left : right',
          'left')]),
     Fault('bounds', 'objects of 4,097 bytes are accepted', 'Refusals Objects', [
-        ('size > MOST_SIZE)',
-         'size > MOST_SIZE + 1)')]),
+        ('size > MAX_SIZE)',
+         'size > MAX_SIZE + 1)')]),
     Fault('bounds', 'an alignment of 512 is accepted', 'Refusals Layout', [
         ('align > 256',
          'align > 512')]),
     Fault('bounds', 'a tenant can make only 31 caches', 'Refusals', [
-        ('    if (number == MOST_CACHES)',
-         '    if (number == MOST_CACHES - 1)')], 40),
+        ('    if (number == MAX_CACHES)',
+         '    if (number == MAX_CACHES - 1)')], 40),
     Fault('bounds', 'the slack behind an object can be read', 'Refusals', [
         ('length <= cache->size',
          'length <= cache->chunk')]),
@@ -313,7 +313,7 @@ SLABS = [
          '    drop_all_empty',
          '        return false;\n'
          '    bool is_low = false;\n'
-         '    for (struct cache *cache = of->caches; cache < of->caches + MOST_CACHES; cache++)\n'
+         '    for (struct cache *cache = of->caches; cache < of->caches + MAX_CACHES; cache++)\n'
          '        for (unsigned at = 0; at < cache->count; at++)\n'
          '            is_low = is_low || (cache->slabs[at].live == 0 && cache->slabs[at].first / frames < 64);\n'
          '    if (!is_low)\n'

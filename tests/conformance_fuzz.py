@@ -9,7 +9,7 @@ from checking import judge, report, runs, talk, traces
 from checking.words import Sizes
 
 # The most memory that this process may use, in KiB.
-MOST_MEMORY = 200_000
+MAX_MEMORY = 200_000
 SIZES = Sizes(3, 2, 2)
 TRACE = ['admin grant 0', 'admin grant 1', '0 cache 24 8 a5', '0 take 0', '0 alloc 1', '0 write 8192 a5', '0 read 8192 2',
          'admin pool', '0 report', '1 alloc 3', '1 free 0', '0 frob', '# remark', 'admin move 0 0', '0 give 0 0',
@@ -95,6 +95,6 @@ def fuzz(work, options, count):
     found = fuzz_replies(work, options, rng, count // 2)
     wrong = fuzz_traces(work, options, rng, count // 2)
     most = resource.getrusage(resource.RUSAGE_SELF).ru_maxrss
-    if most > MOST_MEMORY:
+    if most > MAX_MEMORY:
         sys.exit(f'conformance: fuzz: {most} KiB of memory')
     return found + wrong

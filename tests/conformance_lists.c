@@ -16,7 +16,7 @@ struct page {
 
 struct tenant {
     struct page *pages;
-    uint32_t first[MOST_ORDER + 1];
+    uint32_t first[MAX_ORDER + 1];
     unsigned *superblocks; /* by slot */
     unsigned *taken;       /* frames, by slot */
 };
@@ -191,7 +191,7 @@ static uint8_t *reach(struct tenant *of, uint32_t place, uint32_t length) {
 }
 
 enum reply read_bytes(unsigned tenant, uint32_t place, uint32_t length, uint8_t *bytes) {
-    if (length < 1 || length > MOST_BYTES)
+    if (length < 1 || length > MAX_BYTES)
         return BAD_LENGTH;
     const uint8_t *from = reach(&all[tenant], place, length);
     if (from == NULL)

@@ -5,20 +5,20 @@
 #include <stdlib.h>
 #include <string.h>
 
-enum { NODES = 2 << MOST_ORDER, MOST_OBJECTS = FRAME_BYTES / 8, MOST_SIZE = 4096, LEAST_OBJECTS = 4 };
+enum { NODES = 2 << MAX_ORDER, MAX_OBJECTS = FRAME_BYTES / 8, MAX_SIZE = 4096, MIN_OBJECTS = 4 };
 enum kind { NOTHING, PAGES, SLAB };
 
 struct slab {
     uint32_t first; /* frame */
     unsigned live;
-    bool taken[MOST_OBJECTS];
+    bool taken[MAX_OBJECTS];
 };
 
 struct cache {
     bool is_used;
     uint32_t size, chunk;
     unsigned order, objects, length, count;
-    uint8_t pattern[MOST_PATTERN];
+    uint8_t pattern[MAX_PATTERN];
     struct slab *slabs;
 };
 
@@ -26,7 +26,7 @@ struct tenant {
     unsigned *superblocks;    /* by slot */
     uint8_t (*trees)[NODES];  /* by slot: the greatest free order plus 1, or 0 */
     uint8_t *orders, *kinds;  /* of the block that begins at a frame */
-    struct cache caches[MOST_CACHES];
+    struct cache caches[MAX_CACHES];
 };
 
 static unsigned top, frames, count;
@@ -108,7 +108,7 @@ enum reply reset(unsigned tenant, unsigned *superblocks) {
             ++*superblocks;
             give_up(of, slot);
         }
-    for (struct cache *cache = of->caches; cache < of->caches + MOST_CACHES; cache++) {
+    for (struct cache *cache = of->caches; cache < of->caches + MAX_CACHES; cache++) {
         free(cache->slabs);
         memset(cache, 0, sizeof *cache);
     }
@@ -186,7 +186,7 @@ static unsigned drop_empty(struct tenant *of, struct cache *cache) {
 static void drop_all_empty(unsigned tenant, unsigned *freed) {
     struct tenant *of = &all[tenant];
     *freed = 0;
-    for (struct cache *cache = of->caches; cache < of->caches + MOST_CACHES; cache++)
+    for (struct cache *cache = of->caches; cache < of->caches + MAX_CACHES; cache++)
         *freed += drop_empty(of, cache);
 }
 
@@ -195,7 +195,7 @@ static bool would_fit(struct tenant *of, unsigned order) {
     bool fits = false;
     uint8_t (*before)[NODES] = malloc(count * sizeof *before);
     memcpy(before, of->trees, count * sizeof *before);
-    for (struct cache *cache = of->caches; cache < of->caches + MOST_CACHES; cache++)
+    for (struct cache *cache = of->caches; cache < of->caches + MAX_CACHES; cache++)
         for (struct slab *slab = cache->slabs; slab < cache->slabs + cache->count; slab++)
             if (slab->live == 0)
                 set_free(of->trees[slab->first / frames], node_of(slab->first, cache->order), cache->order,
@@ -242,7 +242,7 @@ static struct slab *slab_at(struct cache *cache, uint32_t place) {
 }
 
 static bool is_in_object(struct tenant *of, uint32_t place, uint32_t length) {
-    for (struct cache *cache = of->caches; cache < of->caches + MOST_CACHES; cache++) {
+    for (struct cache *cache = of->caches; cache < of->caches + MAX_CACHES; cache++) {
         struct slab *slab = slab_at(cache, place);
         if (slab != NULL) {
             uint32_t offset = place - slab->first * FRAME_BYTES, at = offset / cache->chunk;
@@ -271,7 +271,7 @@ static uint8_t *reach(unsigned tenant, uint32_t place, uint32_t length) {
 
 enum reply read_bytes(unsigned tenant, uint32_t place, uint32_t length, uint8_t *bytes) {
     const uint8_t *from = reach(tenant, place, length);
-    if (length < 1 || length > MOST_BYTES)
+    if (length < 1 || length > MAX_BYTES)
         return BAD_LENGTH;
     if (from == NULL)
         return OUT_OF_REACH;
@@ -291,18 +291,18 @@ static enum reply make(unsigned tenant, uint32_t size, uint32_t align, unsigned 
                        struct layout *layout) {
     struct cache *cache = all[tenant].caches;
     unsigned number = 0;
-    if (size < 1 || size > MOST_SIZE)
+    if (size < 1 || size > MAX_SIZE)
         return BAD_SIZE;
     if (align < 8 || align > 256 || (align & (align - 1)) != 0)
         return BAD_ALIGN;
-    while (number < MOST_CACHES && cache[number].is_used)
+    while (number < MAX_CACHES && cache[number].is_used)
         number++;
-    if (number == MOST_CACHES)
+    if (number == MAX_CACHES)
         return NO_CACHE_SLOT;
     cache += number;
     *cache = (struct cache){.is_used = true, .size = size, .chunk = (size + align - 1) / align * align, .length = length};
     memcpy(cache->pattern, pattern, length);
-    while ((FRAME_BYTES << cache->order) / cache->chunk < LEAST_OBJECTS)
+    while ((FRAME_BYTES << cache->order) / cache->chunk < MIN_OBJECTS)
         cache->order++;
     cache->objects = (FRAME_BYTES << cache->order) / cache->chunk;
     *layout = (struct layout){number, cache->chunk, cache->order, cache->objects, 1};
@@ -310,7 +310,7 @@ static enum reply make(unsigned tenant, uint32_t size, uint32_t align, unsigned 
 }
 
 static struct cache *cache_of(unsigned tenant, uint32_t number) {
-    return number < MOST_CACHES && all[tenant].caches[number].is_used ? &all[tenant].caches[number] : NULL;
+    return number < MAX_CACHES && all[tenant].caches[number].is_used ? &all[tenant].caches[number] : NULL;
 }
 
 static enum reply destroy(unsigned tenant, uint32_t number, unsigned *freed) {
@@ -396,7 +396,7 @@ static void report(unsigned tenant, struct figures *figures) {
     for (uint32_t slot = 0; slot < count; slot++)
         if (holds(of, slot))
             count_blocks(of, slot, 1, top, figures);
-    for (unsigned number = 0; number < MOST_CACHES; number++) {
+    for (unsigned number = 0; number < MAX_CACHES; number++) {
         struct cache *cache = cache_of(tenant, number);
         if (cache == NULL)
             continue;

@@ -23,7 +23,7 @@ static _Alignas(4096) unsigned char ram[PARTMEM_RAM_BYTES(ORDER, SUPERBLOCKS)];
 static _Alignas(16) unsigned char tables[PARTMEM_TABLE_BYTES(ORDER, SUPERBLOCKS, TENANTS)];
 static unsigned char stack_of_interrupts[1 << 16];
 static partmem_machine machine;
-static char buffer[PARTMEM_MOST_TEXT_BYTES];
+static char buffer[PARTMEM_LINE_BUFFER_BYTES];
 static unsigned long interrupts;
 
 /* Replace the functions of the C library, which use vector registers. */

@@ -144,4 +144,4 @@ _Static_assert(PARTMEM_RAM_BYTES(8, 256) == 256 << 20 && PARTMEM_TABLE_BYTES(8, 
 /* Enums have 32 bits. The longest reply to a line is the reply to `admin pool`: a first line, and a line for each of at most 256
  * superblocks. Each of these lines has at most 256 bytes. A read returns at most 64 bytes. */
 _Static_assert(sizeof(partmem_status) == 4 && sizeof(partmem_use) == 4, "another enum");
-_Static_assert(PARTMEM_MOST_TEXT_BYTES == 257 * 256 && PARTMEM_MOST_BYTES == 64, "another buffer");
+_Static_assert(PARTMEM_LINE_BUFFER_BYTES == 257 * 256 && PARTMEM_MAX_BYTES == 64, "another buffer");

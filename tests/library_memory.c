@@ -9,7 +9,7 @@
  * - the RAM or the tables have no space for an allocation that is not refused;
  * - an end returns DONE and has not freed as many blocks as the boot of its machine took, or returns something else and has freed
  *   one;
- * - more than MOST_MACHINES machines are booted at the same time, or a block is held when the program ends.
+ * - more than MAX_MACHINES machines are booted at the same time, or a block is held when the program ends.
  * Otherwise the numbers of calls and blocks are printed on standard error. What the program itself does with memory is not
  * counted.
  */
@@ -22,7 +22,7 @@
 #include "library_memory.h"
 #include "partmem.h"
 
-enum { MOST_MACHINES = 8 };
+enum { MAX_MACHINES = 8 };
 
 long refused_allocation, blocks_held;
 
@@ -32,7 +32,7 @@ static long boots, taken, others, ends;
 static struct {
     const partmem_machine *machine;
     long blocks;
-} held[MOST_MACHINES];
+} held[MAX_MACHINES];
 
 static void hold(bool holds, const char *what)
 {
@@ -46,8 +46,8 @@ static void hold(bool holds, const char *what)
 static long *blocks_of(const partmem_machine *machine, const partmem_machine *from_now_on)
 {
     int i = 0;
-    while (i < MOST_MACHINES && held[i].machine != machine) i++;
-    hold(i < MOST_MACHINES, "a machine that is not known, or too many");
+    while (i < MAX_MACHINES && held[i].machine != machine) i++;
+    hold(i < MAX_MACHINES, "a machine that is not known, or too many");
     held[i].machine = from_now_on;
     return &held[i].blocks;
 }

@@ -6,15 +6,15 @@
 import re
 
 FRAME_BYTES, RECORD_BYTES = 4096, 32
-MOST_LINE, MOST_NUMBER, MOST_BYTES, MOST_PATTERN, MOST_SIZE, MOST_CACHES = 255, 4294967295, 64, 16, 4096, 32
+MAX_LINE, MAX_NUMBER, MAX_BYTES, MAX_PATTERN, MAX_SIZE, MAX_CACHES = 255, 4294967295, 64, 16, 4096, 32
 ALIGNMENTS = [8, 16, 32, 64, 128, 256]
 REFUSALS = ["NoFrames", "BadOrder", "NotABlock", "OutOfReach", "BadLength", "BadSize", "BadAlign", "NoCacheSlot", "NoCache"]
 REFUSALS += ["CacheInUse", "NotAnObject", "NoTenant", "PoolEmpty", "NoSlot", "SlotBusy"]
 # The commands of each actor, with the form of each argument: NUMBER, or the most bytes that its hex digits may give.
 NUMBER = 0
 ADMINISTRATOR = {"grant": [NUMBER], "takeback": [NUMBER, NUMBER], "reset": [NUMBER], "move": [NUMBER, NUMBER], "pool": []}
-TENANT = {"alloc": [NUMBER], "free": [NUMBER], "read": [NUMBER, NUMBER], "write": [NUMBER, MOST_BYTES]}
-TENANT |= {"cache": [NUMBER, NUMBER, MOST_PATTERN], "destroy": [NUMBER], "take": [NUMBER], "give": [NUMBER, NUMBER]}
+TENANT = {"alloc": [NUMBER], "free": [NUMBER], "read": [NUMBER, NUMBER], "write": [NUMBER, MAX_BYTES]}
+TENANT |= {"cache": [NUMBER, NUMBER, MAX_PATTERN], "destroy": [NUMBER], "take": [NUMBER], "give": [NUMBER, NUMBER]}
 TENANT |= {"reap": [], "report": []}
 
 
@@ -27,7 +27,7 @@ class Refused(Exception):
 
 
 def number_of(word):
-    if not re.fullmatch("[0-9]{1,10}", word) or int(word) > MOST_NUMBER:
+    if not re.fullmatch("[0-9]{1,10}", word) or int(word) > MAX_NUMBER:
         raise Fault("Number")
     return int(word)
 
@@ -41,7 +41,7 @@ def bytes_of(word, most):
 def command_of(line):
     """Returns the actor of a line, its command and its arguments; None for a blank line or a comment."""
     text = line.decode("latin-1").removesuffix("\r")
-    if len(text) > MOST_LINE:
+    if len(text) > MAX_LINE:
         raise Fault("Long")
     words = re.findall("[^ \t]+", text)
     if not words or words[0].startswith("#"):
@@ -177,7 +177,7 @@ class Tenant:
         return f"freed {self.pages.pop(first)}"
 
     def read(self, place, length):
-        if not 1 <= length <= MOST_BYTES:
+        if not 1 <= length <= MAX_BYTES:
             raise Refused("BadLength")
         self.check_reach(place, length)
         slot, at = divmod(place, FRAME_BYTES * 2**self.order)
@@ -189,13 +189,13 @@ class Tenant:
         return f"written {len(content)}"
 
     def cache(self, size, align, pattern):
-        if not 1 <= size <= MOST_SIZE:
+        if not 1 <= size <= MAX_SIZE:
             raise Refused("BadSize")
         if align not in ALIGNMENTS:
             raise Refused("BadAlign")
-        if len(self.caches) == MOST_CACHES:
+        if len(self.caches) == MAX_CACHES:
             raise Refused("NoCacheSlot")
-        number = min(set(range(MOST_CACHES)) - set(self.caches))
+        number = min(set(range(MAX_CACHES)) - set(self.caches))
         its = self.caches[number] = Cache(size, align, pattern)
         return f"cache {number} chunk {its.chunk} order {its.order} objects {its.objects} colours {its.colours}"
 

@@ -37,7 +37,7 @@
 
 #include "partmem.h"
 
-enum { MOST_BLOCKS = 1 << 12, MOST_PARTS = 1 << 18, MOST_SHOWN = 1 << 21, MOST_ROW = 1 << 10 };
+enum { MAX_BLOCKS = 1 << 12, MAX_PARTS = 1 << 18, MAX_SHOWN = 1 << 21, MAX_ROW = 1 << 10 };
 
 static void hold(bool holds, const char *what)
 {
@@ -51,12 +51,12 @@ static struct block {
     uint64_t start, size, part_bytes;
     uint32_t first_part;
     bool has_grown, is_superblock;
-} blocks[MOST_BLOCKS];
+} blocks[MAX_BLOCKS];
 static uint32_t block_count;
 
 static void add_block(void *start, size_t size, bool has_grown)
 {
-    hold(block_count < MOST_BLOCKS, "too many blocks");
+    hold(block_count < MAX_BLOCKS, "too many blocks");
     blocks[block_count++] = (struct block){.start = (uint64_t)start, .size = size, .has_grown = has_grown};
 }
 
@@ -106,7 +106,7 @@ static void boot(partmem_machine *machine, uint32_t order, uint32_t superblocks,
         blocks[i].part_bytes = is_cut ? blocks[i].size / count : UINT64_MAX;
         parts += is_cut ? count : 1;
     }
-    hold(parts <= MOST_PARTS, "too many parts of blocks");
+    hold(parts <= MAX_PARTS, "too many parts of blocks");
 }
 
 /* The memory operand of the instruction at each address of the program's text. A register's number is its place in a signal
@@ -140,8 +140,8 @@ static struct {
 } now;
 static struct {
     uint32_t command, number;
-} met[MOST_PARTS];
-static uint64_t shown[MOST_SHOWN][2];
+} met[MAX_PARTS];
+static uint64_t shown[MAX_SHOWN][2];
 static uint32_t shown_command;
 
 static uint64_t mix(uint64_t hash, uint64_t value)
@@ -178,7 +178,7 @@ static void count_step(uint64_t at, uint64_t touched)
 {
     now.path = mix(now.path, at);
     if (touched) now.data = mix(now.data, touched);
-    if (now.command == shown_command && now.steps < MOST_SHOWN) {
+    if (now.command == shown_command && now.steps < MAX_SHOWN) {
         shown[now.steps][0] = at;
         shown[now.steps][1] = touched;
     }
@@ -252,9 +252,9 @@ void *__wrap_memset(void *to, int byte, size_t count)
 }
 
 static partmem_machine machine;
-static char row[MOST_ROW];
-static char line[MOST_ROW], buffer[PARTMEM_MOST_TEXT_BYTES];
-static uint8_t bytes[MOST_ROW];
+static char row[MAX_ROW];
+static char line[MAX_ROW], buffer[PARTMEM_LINE_BUFFER_BYTES];
+static uint8_t bytes[MAX_ROW];
 static size_t line_len, bytes_len, written;
 static partmem_request request;
 static partmem_reply reply;
@@ -296,7 +296,7 @@ static void call(partmem_tenant tenant, uint32_t first, uint32_t second)
         break;
     case PARTMEM_READ:
         results.lent_as = partmem_lend(tenant, first, second, &results.lent);
-        results.status = partmem_read(tenant, first, buffer, second > PARTMEM_MOST_BYTES ? PARTMEM_MOST_BYTES + 1 : second);
+        results.status = partmem_read(tenant, first, buffer, second > PARTMEM_MAX_BYTES ? PARTMEM_MAX_BYTES + 1 : second);
         break;
     case PARTMEM_WRITE: results.status = partmem_write(tenant, first, bytes, bytes_len); break;
     case PARTMEM_CACHE: results.status = partmem_make_cache(tenant, first, second, bytes, bytes_len, &results.cache); break;
@@ -331,7 +331,7 @@ static uint64_t hash_of(const void *some, size_t count)
 
 static void read_event(const char *text)
 {
-    char hex[MOST_ROW] = "";
+    char hex[MAX_ROW] = "";
     int read = sscanf(text, "%u %u %u %u %1000s", &request.kind, &request.tenant, &request.first, &request.second, hex);
     hold(read >= 4, "an event");
     bytes_len = strlen(hex) / 2;
@@ -364,7 +364,7 @@ static void run_row(void)
     if (is_call) written = request.kind == PARTMEM_READ && results.status == PARTMEM_DONE ? request.second : 0;
     uint64_t answer = mix(mix(hash_of(buffer, written), hash_of(&reply, sizeof reply)), hash_of(&results, sizeof results));
     if (!shown_command) printf("%lu %016lx %016lx %016lx\n", now.steps, now.path, now.data, answer);
-    for (uint64_t i = 0; now.command == shown_command && i < now.steps && i < MOST_SHOWN; i++) {
+    for (uint64_t i = 0; now.command == shown_command && i < now.steps && i < MAX_SHOWN; i++) {
         printf("%lx %lx\n", shown[i][0], shown[i][1]);
     }
 }

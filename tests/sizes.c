@@ -26,7 +26,7 @@ static struct {
         partmem_figures figures;
         size_t written;
         uint32_t words[6];
-        uint8_t bytes[PARTMEM_MOST_TEXT_BYTES];
+        uint8_t bytes[PARTMEM_LINE_BUFFER_BYTES];
     } inside;
     uint8_t back[64];
 } place, fence, buffer;
@@ -68,7 +68,7 @@ static const uint32_t *reply_to(partmem_machine *machine, uint32_t kind, uint32_
     memset(&fence, UNTOUCHED, sizeof fence);
     memset(&buffer, UNTOUCHED, sizeof buffer);
     uint8_t *few = buffer.inside.bytes;
-    partmem_status status = partmem_event(machine, &request, &pattern, 1, &fence.inside.reply, few, PARTMEM_MOST_BYTES);
+    partmem_status status = partmem_event(machine, &request, &pattern, 1, &fence.inside.reply, few, PARTMEM_MAX_BYTES);
     bool is_done = status == PARTMEM_DONE && is_kept_behind(&fence, 6 * sizeof(uint32_t)) && is_kept_behind(&place, MACHINE);
     check(is_done, "an event", kind, tenant, first);
     check(is_kept_behind(&buffer, kind == PARTMEM_READ ? second : 0), "the buffer of an event", kind, tenant, first);
@@ -124,7 +124,7 @@ static void use_in_place(partmem_machine *machine, uint32_t order, uint32_t supe
     const uint32_t bytes = PARTMEM_FRAME_BYTES << order, last_slot = superblocks - 1, last_place = last_slot * bytes;
     partmem_slot slot;
     partmem_reply reply;
-    uint8_t few[PARTMEM_MOST_BYTES];
+    uint8_t few[PARTMEM_MAX_BYTES];
     if (superblocks < 2) return;
     for (uint32_t i = 1; i <= last_slot; i++) {
         bool is_next = partmem_grant(last, &slot) == PARTMEM_DONE && slot.slot == i && slot.superblock == i;

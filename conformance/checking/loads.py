@@ -11,9 +11,9 @@ from .words import Sizes
 
 # Everything counts as full if, of the lines sent at once, more than one in FULL is refused with NoFrames or PoolEmpty.
 FULL = 3
-# Noise is lines of other tenants. OWN_AT_ONCE lines of a tenant's own list are sent at once, with at most MOST_NOISE lines of
+# Noise is lines of other tenants. OWN_AT_ONCE lines of a tenant's own list are sent at once, with at most MAX_NOISE lines of
 # noise before each of them.
-OWN_AT_ONCE, MOST_NOISE = 16, 3
+OWN_AT_ONCE, MAX_NOISE = 16, 3
 
 
 class Reached(NamedTuple):
@@ -121,7 +121,7 @@ def between_noise(programs, before, tenant, maker):
     for at in range(0, len(lines), OWN_AT_ONCE):
         held, said = sum(len(run.world.tenants[other].slots) for other in others), []
         for line in lines[at:at + OWN_AT_ONCE]:
-            for _ in range(maker.rng.randrange(MOST_NOISE + 1) if others else 0):
+            for _ in range(maker.rng.randrange(MAX_NOISE + 1) if others else 0):
                 other = maker.line(run.world, noise)
                 is_grant = other.startswith('admin grant')
                 if not is_own(tenant, other, ['']) and (not is_grant or held < left):

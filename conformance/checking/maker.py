@@ -2,7 +2,7 @@
 import functools
 from typing import NamedTuple, Optional
 
-from .words import FRAME_BYTES, MOST_BYTES, MOST_NUMBER
+from .words import FRAME_BYTES, MAX_BYTES, MAX_NUMBER
 from .world import Cache
 
 OF_TENANT = ('alloc', 'free', 'read', 'write', 'cache', 'destroy', 'take', 'give', 'reap', 'report')
@@ -13,16 +13,16 @@ FAULTY = ['frob', '0', '0 alloc', '0 alloc x', '0 alloc 4294967296', '7x alloc 0
           'admin frob', 'admin grant', '# remark', '', ' \t', '0 alloc ' + '0' * 11, '0 read 0 ' + '9' * 300,
           '\t 0  alloc \t 0\r', '0 alloc 0 0', 'admin grant 0 0', 'admin takeback 0 x', '0 write 0 ' + 'a5' * 65]
 POWERS = [1 << k for k in (3, 5, 8, 12, 16, 20, 24, 31)]
-EDGES = sorted({0, 1, MOST_NUMBER, MOST_NUMBER - 1} | {power + more for power in POWERS for more in (-1, 0, 1)})
-WRONG_ORDERS = [9, 12, 16, 20, 31, 32, 33, 63, 64, 255, 256, 257, 264, 1 << 16, 1 << 31, MOST_NUMBER]
-LENGTHS, WRONG_LENGTHS = [1, 1, 2, 4, 8, 16, 32, 63, 64, 64], [0, 0, 65, 66, 128, 255, 256, 257, 1 << 16, 1 << 31, MOST_NUMBER]
+EDGES = sorted({0, 1, MAX_NUMBER, MAX_NUMBER - 1} | {power + more for power in POWERS for more in (-1, 0, 1)})
+WRONG_ORDERS = [9, 12, 16, 20, 31, 32, 33, 63, 64, 255, 256, 257, 264, 1 << 16, 1 << 31, MAX_NUMBER]
+LENGTHS, WRONG_LENGTHS = [1, 1, 2, 4, 8, 16, 32, 63, 64, 64], [0, 0, 65, 66, 128, 255, 256, 257, 1 << 16, 1 << 31, MAX_NUMBER]
 OBJECTS = [1, 7, 8, 8, 9, 15, 16, 17, 24, 31, 32, 33, 63, 64, 65, 100, 127, 128, 129, 200, 255, 256, 257, 500, 511, 512, 513,
            1000, 1023, 1024, 1025, 2000, 2047, 2048, 2049, 4095, 4096]
-WRONG_OBJECTS = [0, 4097, 8192, 1 << 16, (1 << 16) + 8, 1 << 31, MOST_NUMBER]
+WRONG_OBJECTS = [0, 4097, 8192, 1 << 16, (1 << 16) + 8, 1 << 31, MAX_NUMBER]
 ALIGNMENTS = [8, 8, 8, 8, 16, 32, 64, 128, 256]
-WRONG_ALIGNMENTS = [0, 1, 4, 7, 9, 12, 24, 255, 257, 512, 4096, (1 << 16) + 8, MOST_NUMBER]
+WRONG_ALIGNMENTS = [0, 1, 4, 7, 9, 12, 24, 255, 257, 512, 4096, (1 << 16) + 8, MAX_NUMBER]
 # How many caches a tenant may have.
-MOST_CACHES = 32
+MAX_CACHES = 32
 
 
 class Goal(NamedTuple):
@@ -107,7 +107,7 @@ class Maker:
 
     def no_tenant(self, world):
         count = world.sizes.tenants
-        return max(count, self.one([count, count, count + 1, 64, 255, 256, 257, 1 << 16, 1 << 31, MOST_NUMBER]))
+        return max(count, self.one([count, count, count + 1, 64, 255, 256, 257, 1 << 16, 1 << 31, MAX_NUMBER]))
 
     def slot(self, world, phase, slots):
         if slots and self.is_right(phase, 0.92):
@@ -119,7 +119,7 @@ class Maker:
         `spans`, or is at an edge. A program that uses too few bits may take it for this one."""
         spans = [1, span, 1 << 8, 1 << 16, *spans]
         wrong = number + self.one([1, 1, -1]) * self.one(spans) if self.rng.random() < 0.7 else self.one(EDGES)
-        return min(max(wrong, 0), MOST_NUMBER)
+        return min(max(wrong, 0), MAX_NUMBER)
 
     def command(self, world, phase, tenant, command):
         """Returns the words of a line after its actor: the command and its arguments. May replace a command that would have
@@ -177,7 +177,7 @@ class Maker:
             return tenant.last_cache
         if tenant.caches and self.is_right(phase, 0.95):
             return tenant.caches.draw(self.rng)
-        return self.near(tenant.caches.draw(self.rng) if tenant.caches else 0, MOST_CACHES)
+        return self.near(tenant.caches.draw(self.rng) if tenant.caches else 0, MAX_CACHES)
 
     def object(self, world, phase, tenant):
         if tenant.objects and self.is_right(phase, 0.92):
@@ -208,12 +208,12 @@ class Maker:
             # an offset in a superblock at which some tenant has written
             place = tenant.slots.draw(self.rng) * (FRAME_BYTES << world.sizes.order) + self.one(world.offsets)
         elif chance < 0.28 or not tenant.pages and not tenant.objects:
-            place = self.one([0, MOST_NUMBER, MOST_NUMBER - length + 1, MOST_NUMBER - length + 2, self.one(EDGES)])
+            place = self.one([0, MAX_NUMBER, MAX_NUMBER - length + 1, MAX_NUMBER - length + 2, self.one(EDGES)])
         else:
             begin, size = self.block(tenant)
             length = min(length, size) if self.rng.random() < 0.9 else length
             place = begin + self.at(size, length)
-        return min(max(place, 0), MOST_NUMBER), length
+        return min(max(place, 0), MAX_NUMBER), length
 
     def block(self, tenant):
         """Returns the first place of a block or an object, and its size in bytes."""

@@ -14,7 +14,7 @@ from .words import Sizes
 
 TOP = os.path.dirname(os.path.dirname(os.path.dirname(os.path.abspath(__file__))))
 # How many loads are run without options, how many are run with --long, and how many are run at a time at most.
-LOADS, LONG_LOADS, MOST_JOBS = 300, 8, 256
+LOADS, LONG_LOADS, MAX_JOBS = 300, 8, 256
 INFINITE = float('inf')
 # Options that say which loads are run, and how. All other options are part of the test, and are repeated to run a load again.
 WHICH = 'loads', 'load', 'seed', 'trace', 'save', 'jobs'
@@ -83,8 +83,8 @@ def add_loads(add):
     add('--trace', action='append', metavar='FILE',
         help='run this trace, or all traces of a folder, and no loads; can be given more than once')
     add('--save', metavar='FILE', help='write the shortened trace of a load that breaks a promise or fails, for --trace')
-    add('--jobs', type=number(int, 1, MOST_JOBS), default=min(len(os.sched_getaffinity(0)), MOST_JOBS), metavar='J',
-        help=f'how many loads are run at a time, 1 to {MOST_JOBS} (default: one for each processor)')
+    add('--jobs', type=number(int, 1, MAX_JOBS), default=min(len(os.sched_getaffinity(0)), MAX_JOBS), metavar='J',
+        help=f'how many loads are run at a time, 1 to {MAX_JOBS} (default: one for each processor)')
     add('--shorten', type=number(float, 0), metavar='SECONDS',
         help=f'how long a load is shortened, at most (default: {SHORTENING}, and {SHORTENING_OF_HANGING} if PROGRAM hangs)')
 

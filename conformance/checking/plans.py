@@ -2,10 +2,10 @@
 import random
 from typing import NamedTuple
 
-from .maker import ALIGNMENTS, MOST_CACHES, OBJECTS, Goal, Phase
-from .words import MOST_ORDER, Sizes
+from .maker import ALIGNMENTS, MAX_CACHES, OBJECTS, Goal, Phase
+from .words import MAX_ORDER, Sizes
 
-MOST_SUPERBLOCKS, MOST_TENANTS = 256, 64
+MAX_SUPERBLOCKS, MAX_TENANTS = 256, 64
 # How many lines are sent before the first of their replies is read.
 AT_ONCE = 64
 
@@ -28,7 +28,7 @@ TAKE, GIVE, ALLOC, FREE = 'take 1', 'give 1', 'alloc 1', 'free 1'
 # Counts around the least that does not fit into a byte.
 EDGES_OF_COUNTS = 255, 256, 257
 # Order and number of superblocks of the machines that one tenant fills.
-ALONE = [(8, 1), (8, 16), (8, MOST_SUPERBLOCKS), (8, MOST_SUPERBLOCKS), (7, MOST_SUPERBLOCKS), (6, 3)]
+ALONE = [(8, 1), (8, 16), (8, MAX_SUPERBLOCKS), (8, MAX_SUPERBLOCKS), (7, MAX_SUPERBLOCKS), (6, 3)]
 # Ranks of slots around the ends of bitmaps of 32, 64, 128 and 256 bits; -1 is the highest slot.
 RANKS = 0, 1, 31, 32, 62, 63, 64, 65, 127, 128, 254, 255, -1
 
@@ -81,7 +81,7 @@ class Planner:
         return Plan(sizes, phases, self.rng.choice([1, 1, 4, 8]))
 
     def medium(self):
-        sizes = self.machine(range(3, MOST_ORDER + 1), [2, 4, 8, 16, 32, 64], [1, 2, 3, 5, 8, 16])
+        sizes = self.machine(range(3, MAX_ORDER + 1), [2, 4, 8, 16, 32, 64], [1, 2, 3, 5, 8, 16])
         everyone = list(range(sizes.tenants))
         return Plan(sizes, [Phase(200, ALL, everyone, self.orders(sizes)), *self.phases(sizes, everyone, 800)])
 
@@ -138,13 +138,13 @@ class Planner:
         for at, count in enumerate([*counts, *counts[-2::-1]]):
             goal = count if isinstance(count, Goal) else Goal(noun, count)
             does = up if at < len(counts) else down
-            phases += [Phase(2 * MOST_SUPERBLOCKS, does, owner, [each], until='full', goal=goal, is_plain=True)
+            phases += [Phase(2 * MAX_SUPERBLOCKS, does, owner, [each], until='full', goal=goal, is_plain=True)
                        for each in orders]
             phases.append(Phase(15, HOLD, owner, [order]))
         return phases
 
     def wide(self):
-        sizes = self.machine([8, 8, 7], [MOST_SUPERBLOCKS], [MOST_TENANTS])
+        sizes = self.machine([8, 8, 7], [MAX_SUPERBLOCKS], [MAX_TENANTS])
         everyone = list(range(sizes.tenants))
         return Plan(sizes, [granting(sizes, everyone), Phase(600, ALL, everyone, self.orders(sizes)),
                             Phase(300, FILL, everyone, [sizes.order], until='full'),
@@ -177,7 +177,7 @@ class Planner:
                             Phase(1200, FILL_OBJECTS, owner, every, until='full'), Phase(60, MOVES, owner, every),
                             Phase(60, PROBE, owner, every),
                             Phase(200, CHURN, owner, every), Phase(12, QUIET, owner, [sizes.order]),
-                            Phase(2 * MOST_CACHES, CACHES, owner, every), Phase(1200, DRAIN, owner, every, until='empty'),
+                            Phase(2 * MAX_CACHES, CACHES, owner, every), Phase(1200, DRAIN, owner, every, until='empty'),
                             Phase(40, PROBE, owner, every), Phase(100, ALL, owner, every), Phase(40, RETURNS, owner, every)])
 
     def slabs(self):
@@ -197,7 +197,7 @@ class Planner:
     def slots(self):
         """Returns a plan in which all slots are full except a low and a high one. Blocks or slabs fill these, and leave them
         again."""
-        sizes = self.machine([3, 3, 3, 4, 5], [64, 65, 66, 66, 96, 129, 255, MOST_SUPERBLOCKS], [1, 1, 2, 64])
+        sizes = self.machine([3, 3, 3, 4, 5], [64, 65, 66, 66, 96, 129, 255, MAX_SUPERBLOCKS], [1, 1, 2, 64])
         owner, every = [self.rng.randrange(sizes.tenants)], list(range(sizes.order + 1))
         fill = Phase(2 * sizes.superblocks, ALLOC, owner, [sizes.order], until='full', is_plain=True)
         phases = [granting(sizes, owner)]
@@ -221,7 +221,7 @@ class Planner:
     def longest(self):
         """Returns a plan of at least 100,000 lines. On the widest machine a tenant has 2^16 blocks, or about 2^16 objects of 8 or
         of 4,096 bytes."""
-        sizes = self.machine([MOST_ORDER], [MOST_SUPERBLOCKS], [1, 2, 3])
+        sizes = self.machine([MAX_ORDER], [MAX_SUPERBLOCKS], [1, 2, 3])
         owner = [self.rng.randrange(sizes.tenants)]
         size = self.in_turn([8, 4096, None, None], 2) if self.with_caches else None
         if size:

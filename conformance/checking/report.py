@@ -6,14 +6,14 @@ import time
 
 from .judge import Breach
 from .maker import OF_CACHES
-from .plans import MOST_SUPERBLOCKS, MOST_TENANTS
+from .plans import MAX_SUPERBLOCKS, MAX_TENANTS
 from .talk import Failure
-from .words import MOST_ORDER, counted, in_seconds, visible, words_of
+from .words import MAX_ORDER, counted, in_seconds, visible, words_of
 
-# The lines of standard error that are shown: at most MOST_LAST_LINES at its end, at most MOST_TELLING that say what happened, and
-# after each of those at most MOST_MESSAGE lines of its message, and at most MOST_FRAMES stack frames of the next MOST_BEHIND
+# The lines of standard error that are shown: at most MAX_LAST_LINES at its end, at most MAX_TELLING that say what happened, and
+# after each of those at most MAX_MESSAGE lines of its message, and at most MAX_FRAMES stack frames of the next MAX_BEHIND
 # lines. Frames of Rust's own library are left out. A frame in Rust may have a second line, with its place.
-MOST_LAST_LINES, MOST_TELLING, MOST_MESSAGE, MOST_FRAMES, MOST_BEHIND = 5, 4, 3, 3, 60
+MAX_LAST_LINES, MAX_TELLING, MAX_MESSAGE, MAX_FRAMES, MAX_BEHIND = 5, 4, 3, 3, 60
 TELLING = re.compile(r'ERROR:|runtime error:|[Aa]ssertion|panicked at')
 FRAME = re.compile(r'\s*#\d+ |\s+\d+: ')
 LIBRARY = 'backtrace_rs|panicking|backtrace|sys|fmt|io|option|result|slice|ops|vec'
@@ -64,9 +64,9 @@ def advice(options, case):
 def last_words(errors):
     """Yields the lines of standard error that say what happened, and the last ones. `..` marks lines that are left out."""
     lines, shown = errors.splitlines(), set()
-    for at in [at for at, line in enumerate(lines) if TELLING.search(line)][:MOST_TELLING]:
+    for at in [at for at, line in enumerate(lines) if TELLING.search(line)][:MAX_TELLING]:
         shown |= {at, *message_after(lines, at), *frames_after(lines, at)}
-    shown |= set(range(max(0, len(lines) - MOST_LAST_LINES), len(lines)))
+    shown |= set(range(max(0, len(lines) - MAX_LAST_LINES), len(lines)))
     before = -1
     for at in sorted(shown):
         if at > before + 1:
@@ -77,15 +77,15 @@ def last_words(errors):
 
 def message_after(lines, at):
     """Returns the numbers of the lines right after a line that says what happened, up to its stack frames."""
-    behind = range(at + 1, min(at + 1 + MOST_MESSAGE, len(lines)))
+    behind = range(at + 1, min(at + 1 + MAX_MESSAGE, len(lines)))
     return itertools.takewhile(lambda line: not FRAME.match(lines[line]) and lines[line] != BACKTRACE, behind)
 
 
 def frames_after(lines, at):
     """Yields the numbers of the first stack frames after a line that says what happened, and of the lines with their places."""
-    behind = range(at + 1, min(at + 1 + MOST_BEHIND, len(lines)))
+    behind = range(at + 1, min(at + 1 + MAX_BEHIND, len(lines)))
     frames = (line for line in behind if FRAME.match(lines[line]) and not OF_RUST.match(lines[line]))
-    for frame in itertools.islice(frames, MOST_FRAMES):
+    for frame in itertools.islice(frames, MAX_FRAMES):
         yield frame
         if frame + 1 < len(lines) and PLACE.match(lines[frame + 1]):
             yield frame + 1
@@ -133,11 +133,11 @@ def not_reached(options, reached):
     refusals = [name for command in commands for name in REFUSALS[command]] + OF_ADMIN
     yield from (name for name in dict.fromkeys(refusals) if not reached.refused[name])
     if options.order is None:
-        yield from (f'order {order}' for order in range(3, MOST_ORDER + 1) if order not in reached.orders)
-    if options.superblocks is None and reached.widest.superblocks < MOST_SUPERBLOCKS:
-        yield f'{MOST_SUPERBLOCKS} superblocks'
-    if options.tenants is None and reached.tenants < MOST_TENANTS:
-        yield f'{MOST_TENANTS} tenants'
+        yield from (f'order {order}' for order in range(3, MAX_ORDER + 1) if order not in reached.orders)
+    if options.superblocks is None and reached.widest.superblocks < MAX_SUPERBLOCKS:
+        yield f'{MAX_SUPERBLOCKS} superblocks'
+    if options.tenants is None and reached.tenants < MAX_TENANTS:
+        yield f'{MAX_TENANTS} tenants'
 
 
 def kept(options, count, noun, reached):

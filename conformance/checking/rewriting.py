@@ -7,7 +7,7 @@ import collections
 
 from .families import families_of
 from .runs import POWERS, Places, name_in, names_in, tenant_of
-from .words import FRAME_BYTES, MOST_ORDER, is_number, told_in
+from .words import FRAME_BYTES, MAX_ORDER, is_number, told_in
 
 # LARGER has sizes of objects that are tried if a cache has smaller objects; some fill a frame exactly, others leave bytes for
 # colours. Then only the last objects of the cache are kept: LAST_KEPT says how many.
@@ -31,7 +31,7 @@ def gives(kind, words, told):
     """Returns whether these words are a command that gives a name of this kind, and its reply gave one."""
     is_command = len(words) > 2 and words[1] == COMMANDS[kind] and is_number(words[2])
     is_answered = len(told) > 1 and told[0] == kind and is_number(told[1])
-    return is_command and is_answered and (kind != 'frame' or int(words[2]) <= MOST_ORDER)
+    return is_command and is_answered and (kind != 'frame' or int(words[2]) <= MAX_ORDER)
 
 
 def slabs_as_blocks(run):

@@ -4,11 +4,11 @@ import collections
 import contextlib
 
 from .talk import ProgramFailed
-from .words import FRAME_BYTES, MOST_BYTES, MOST_NUMBER, is_number, number_in, order_in, told_in
+from .words import FRAME_BYTES, MAX_BYTES, MAX_NUMBER, is_number, number_in, order_in, told_in
 from .world import World
 
 # The most lines that are sent at once if none of them needs the reply to another.
-MOST_AT_ONCE = 256
+MAX_AT_ONCE = 256
 # If a wrong number has one of these distances from a name, it keeps the distance when the name changes. The distances are powers
 # of two, since blocks and slots have such sizes, and since a program may drop the high bits of a number.
 POWERS = [1 << power for power in range(32)]
@@ -105,13 +105,13 @@ class Places:
 
     def around(self, place):
         """Returns the first place of the block or object that contains a place, ends right before it, or begins at most
-        MOST_BYTES after it. Returns None if there is none."""
+        MAX_BYTES after it. Returns None if there is none."""
         at = bisect.bisect_right(self.begins, place) - 1
         before = self.begins[at] if at >= 0 else None
         if before is not None and place <= before + self.known[before][0]:
             return before
         behind = self.begins[at + 1] if at + 1 < len(self.begins) else None
-        return behind if behind is not None and behind - place <= MOST_BYTES else None
+        return behind if behind is not None and behind - place <= MAX_BYTES else None
 
     def now(self, place):
         """Returns where a place is in the other run. A place around which there is nothing stays the same."""
@@ -174,8 +174,8 @@ class Renamed:
         if kind == 'frame' and number not in names:
             return self.place(number * FRAME_BYTES, FRAME_BYTES) // FRAME_BYTES
         for distance in DISTANCES:
-            now = names.get(number - distance, -MOST_NUMBER) + distance
-            if 0 <= now <= MOST_NUMBER:
+            now = names.get(number - distance, -MAX_NUMBER) + distance
+            if 0 <= now <= MAX_NUMBER:
                 return word if now == number else now
         return word
 
@@ -234,7 +234,7 @@ def replayed(programs, sizes, exchanges, order=None):
         words, told = line.split(), told_in(replies)
         is_plain = told[:1] == ['fault'] or len(words) < 3
         names = None if is_plain else renamed[words[2] if words[0] == 'admin' else words[0]]
-        if len(sent) >= MOST_AT_ONCE or names and names.needs(words):
+        if len(sent) >= MAX_AT_ONCE or names and names.needs(words):
             answered()
         if names:
             names.awaits(told)

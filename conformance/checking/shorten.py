@@ -7,15 +7,15 @@ from .families import families_of
 from .judge import Judge
 from .runs import has_done, tenant_of
 from .talk import SECONDS, Failure, Programs
-from .words import LEAST_ORDER, Sizes, counted, in_seconds, is_number, told_in
+from .words import MIN_ORDER, Sizes, counted, in_seconds, is_number, told_in
 
 # For how many seconds a load is shortened. The second number is for a program that hangs: each run that shows this waits until
 # the time for a reply is over.
 SHORTENING, SHORTENING_OF_HANGING = 30, 4
 # While the load of a program that hangs is shortened, a reply may take TIMES_SLOWEST times as long as the slowest reply of the
-# whole load, but at least LEAST_SECONDS and at most SECONDS. A program that crashes may take SECONDS, since it may need long to
+# whole load, but at least MIN_SECONDS and at most SECONDS. A program that crashes may take SECONDS, since it may need long to
 # print its stack.
-TIMES_SLOWEST, LEAST_SECONDS = 10, 0.2
+TIMES_SLOWEST, MIN_SECONDS = 10, 0.2
 # Seconds that a reply may take when the shortened failure is run once more: a busy machine makes a program look as if it hung.
 SECONDS_AGAIN = 1
 # The kinds of failures that need no wait begin with these words.
@@ -24,8 +24,8 @@ AT_ONCE = 'by ', 'with status '
 # parts is multiplied by TIMES_PARTS.
 FIRST_PARTS, TIMES_PARTS = 4, 4
 # Larger objects and other numbers are tried only if a load has more than FEW_LINES lines. Pairs of lines are left out only if
-# it has at most MOST_FOR_PAIRS.
-FEW_LINES, MOST_FOR_PAIRS = 3, 40
+# it has at most MAX_FOR_PAIRS.
+FEW_LINES, MAX_FOR_PAIRS = 3, 40
 # GIVERS are the first words of replies that give a name. ENDS are the commands that end the life of a name.
 GIVERS, ENDS = ('granted', 'cache', 'frame', 'object'), ('free', 'give', 'destroy', 'takeback')
 
@@ -176,7 +176,7 @@ class Shortener:
     def without_a_pair(self):
         """Leaves out a pair of lines, neither of which can be left out alone. Returns whether there was one."""
         count = len(self.case.run.exchanges)
-        pairs = itertools.combinations(range(count if count <= MOST_FOR_PAIRS else 0), 2)
+        pairs = itertools.combinations(range(count if count <= MAX_FOR_PAIRS else 0), 2)
         return any(self.is_shown([dict.fromkeys(pair)]) for pair in pairs)
 
 
@@ -251,7 +251,7 @@ def needed_by(run, fixed):
             owned -= int(told[-1])
     named = [int(word) for word in (tenant_of(line) for line, _ in run.exchanges) if is_number(word)]
     tenants = 1 + max((number for number in named if number < run.sizes.tenants), default=0)
-    least = Sizes(LEAST_ORDER, min(max(most, 1), run.sizes.superblocks), tenants)
+    least = Sizes(MIN_ORDER, min(max(most, 1), run.sizes.superblocks), tenants)
     return Sizes(*(one if one is not None else other for one, other in zip(fixed, least)))
 
 
@@ -260,7 +260,7 @@ def shortened(options, case, note):
     not."""
     is_failure, seconds, patience = isinstance(case.finding, Failure), options.shorten, SECONDS
     if not is_at_once(case.finding):
-        patience = min(SECONDS, max(LEAST_SECONDS, TIMES_SLOWEST * case.run.slowest))
+        patience = min(SECONDS, max(MIN_SECONDS, TIMES_SLOWEST * case.run.slowest))
     if seconds is None:
         seconds = SHORTENING if is_at_once(case.finding) else SHORTENING_OF_HANGING
     judge = Judge(options, Programs(options.command, patience))

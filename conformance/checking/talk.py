@@ -16,9 +16,9 @@ from .words import ending, in_seconds, words_of
 SECONDS = 5
 # For how many seconds standard error is still read after the program was killed.
 SECONDS_OF_ERRORS = 0.2
-# At the end of a run the program may print at most MOST_UNASKED bytes that answer no line. During the run at most MOST_WAITING
+# At the end of a run the program may print at most MAX_UNASKED bytes that answer no line. During the run at most MAX_WAITING
 # printed bytes may wait until they are taken as replies. The replies to lines that are sent at once are much shorter.
-MOST_UNASKED, MOST_WAITING = 1 << 16, 1 << 20
+MAX_UNASKED, MAX_WAITING = 1 << 16, 1 << 20
 # The kind of failure of a program that exceeds one of these two limits.
 BABBLES = 'babbles'
 # How many bytes of standard error are kept: at its beginning, with the words of a sanitizer or of a panic, and at its end.
@@ -111,7 +111,7 @@ class Talk:
             while len(self.ready) < owed:
                 if self.output not in self.open or not self.hear(start + self.seconds):
                     raise self.unanswered()
-                if self.held_bytes > MOST_WAITING:
+                if self.held_bytes > MAX_WAITING:
                     raise self.babble()
             self.slowest = max(self.slowest, time.monotonic() - start)
         self.answered += 1
@@ -133,7 +133,7 @@ class Talk:
             raise self.failed('deaf', f'it answers without reading: line {self.answered} does not fit into the pipe any more')
         self.process.stdin.close()
         is_over = self.exits(time.monotonic() + self.seconds)
-        if self.held_bytes > MOST_UNASKED:
+        if self.held_bytes > MAX_UNASKED:
             raise self.babble()
         if not is_over:
             raise self.failed('stays', f'it did not exit within {in_seconds(self.seconds)} of the end of its input')
@@ -175,9 +175,9 @@ class Talk:
 
     def exits(self, deadline):
         """Waits for the program to exit. Returns false at the deadline, or as soon as the program has printed too much."""
-        while self.open and self.held_bytes <= MOST_UNASKED and self.hear(deadline):
+        while self.open and self.held_bytes <= MAX_UNASKED and self.hear(deadline):
             pass
-        if self.held_bytes > MOST_UNASKED:
+        if self.held_bytes > MAX_UNASKED:
             return False
         delay = 0.0005
         while not os.waitid(os.P_PID, self.process.pid, os.WEXITED | os.WNOHANG | os.WNOWAIT):
@@ -195,7 +195,7 @@ class Talk:
             self.finish()
             how = ending(self.process.returncode)
             return self.failed(how, f'it ended {how} before it answered line {line}')
-        if self.held_bytes > MOST_UNASKED:
+        if self.held_bytes > MAX_UNASKED:
             return self.babble()
         within = f'within {in_seconds(self.seconds)}'
         if self.is_input_closed or not is_silent:
@@ -205,7 +205,7 @@ class Talk:
         return self.failed('hangs', f'it did not answer line {line} {within}{advice}')
 
     def babble(self):
-        return self.failed(BABBLES, f'it printed more than {MOST_UNASKED} bytes that answer no line')
+        return self.failed(BABBLES, f'it printed more than {MAX_UNASKED} bytes that answer no line')
 
     def failed(self, kind, words):
         """Ends the run, and returns its failure as an exception."""

@@ -9,8 +9,8 @@ from .talk import Programs
 from .words import Sizes, words_of
 
 # The line that names the machine begins with MACHINE, and each line that keeps a reply line begins with REPLY. Remarks are cut to
-# MOST_REMARK bytes, since a long remark would be a faulty line.
-MACHINE, REPLY, MOST_REMARK = '# machine: ', '#> ', 250
+# MAX_REMARK bytes, since a long remark would be a faulty line.
+MACHINE, REPLY, MAX_REMARK = '# machine: ', '#> ', 250
 LIMITS = Sizes((3, 8), (1, 256), (1, 64))
 
 
@@ -23,7 +23,7 @@ def text_of(case, about):
     lines = [*(f'# {line}' for line in about), MACHINE + ' '.join(words_of(case.run.sizes))]
     for line, replies in case.run.exchanges:
         lines += [line, *(REPLY + reply for reply in replies)]
-    return ''.join(f'{line[:MOST_REMARK] if line[:1] == "#" else line}\n' for line in lines)
+    return ''.join(f'{line[:MAX_REMARK] if line[:1] == "#" else line}\n' for line in lines)
 
 
 def save(name, case, about):

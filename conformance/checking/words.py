@@ -2,11 +2,11 @@
 import signal
 from typing import NamedTuple
 
-FRAME_SHIFT, LEAST_ORDER, MOST_ORDER, MOST_BYTES = 12, 3, 8, 64
+FRAME_SHIFT, MIN_ORDER, MAX_ORDER, MAX_BYTES = 12, 3, 8, 64
 FRAME_BYTES = 1 << FRAME_SHIFT
-MOST_NUMBER = (1 << 32) - 1
+MAX_NUMBER = (1 << 32) - 1
 # How many characters of a text are shown, at most.
-MOST_SHOWN = 200
+MAX_SHOWN = 200
 
 
 class Sizes(NamedTuple):
@@ -29,8 +29,8 @@ def in_seconds(seconds):
 
 def visible(text):
     """Returns the text, cut if it is long. Characters other than those of printable ASCII are escaped."""
-    shown = ''.join(letter if ' ' <= letter <= '~' else escaped(letter) for letter in text[:MOST_SHOWN])
-    return shown + (f' .. ({len(text)} bytes)' if len(text) > MOST_SHOWN else '')
+    shown = ''.join(letter if ' ' <= letter <= '~' else escaped(letter) for letter in text[:MAX_SHOWN])
+    return shown + (f' .. ({len(text)} bytes)' if len(text) > MAX_SHOWN else '')
 
 
 def escaped(letter):
@@ -49,7 +49,7 @@ def number_in(word):
 
 
 def order_in(word):
-    if number_in(word) > MOST_ORDER:
+    if number_in(word) > MAX_ORDER:
         raise ValueError
     return int(word)
 

@@ -9,9 +9,9 @@
 enum {
     STEP = PARTMEM_HEAP_STEP,
     STEPS = PARTMEM_FRAME_BYTES / PARTMEM_HEAP_STEP,
-    MOST_CACHE_ALIGN = 256,
+    MAX_CACHE_ALIGN = 256,
     KEPT_BYTES = 64, /* realloc makes no piece of at most this size smaller */
-    NO_ROW = PARTMEM_MOST_SUPERBLOCKS,
+    NO_ROW = PARTMEM_MAX_SUPERBLOCKS,
     /* Entries of run[] that are not the length of a run. IN_RUN is for each slot of a run except its first. FOUND and ASIDE are
      * for slots that are allocated during the search for a row: FOUND if the slot can be part of the row, ASIDE if not. */
     IN_RUN = 0xffff,
@@ -38,13 +38,13 @@ static uint32_t order_for(size_t bytes)
 static uint32_t alignment_of(uint32_t size)
 {
     const uint32_t power = size & -size;
-    return power == size || power < MOST_CACHE_ALIGN ? power : MOST_CACHE_ALIGN;
+    return power == size || power < MAX_CACHE_ALIGN ? power : MAX_CACHE_ALIGN;
 }
 
 static bool set_classes(partmem_heap *heap, const uint16_t *sizes, uint32_t count)
 {
     uint32_t step = 0;
-    if (count > PARTMEM_HEAP_MOST_CLASSES) return false;
+    if (count > PARTMEM_HEAP_MAX_CLASSES) return false;
     for (uint32_t class = 0; class < count; class++) {
         const uint32_t size = sizes[class];
         if (size == 0 || size % STEP || size / STEP < step || size / STEP > STEPS) return false;
@@ -63,7 +63,7 @@ static bool set_slots(partmem_heap *heap, partmem_tenant tenant)
 {
     partmem_slot slot;
     uint32_t first = 0;
-    for (uint32_t number = 0; number < PARTMEM_MOST_SUPERBLOCKS; number++) {
+    for (uint32_t number = 0; number < PARTMEM_MAX_SUPERBLOCKS; number++) {
         if (partmem_find_slot(tenant, number, &slot) != PARTMEM_DONE) continue;
         if (number == 0) first = slot.superblock;
         if (number != heap->slots || slot.superblock != first + number) return false;
@@ -111,7 +111,7 @@ static bool is_of_class(const partmem_heap *heap, uint32_t class, const partmem_
 static partmem_status make_cache(partmem_heap *heap, uint32_t class)
 {
     partmem_cache made;
-    const uint32_t align = heap->align[class] < MOST_CACHE_ALIGN ? heap->align[class] : MOST_CACHE_ALIGN;
+    const uint32_t align = heap->align[class] < MAX_CACHE_ALIGN ? heap->align[class] : MAX_CACHE_ALIGN;
     partmem_status status = partmem_make_cache(heap->tenant, heap->size[class], align, "", 1, &made);
     if (status != PARTMEM_DONE) return status;
     heap->cache_of[class] = (uint8_t)(made.cache + 1);
@@ -166,7 +166,7 @@ static uint32_t find_row(partmem_heap *heap, uint32_t count)
         heap->run[first] = is_in_sequence ? FOUND : ASIDE;
         if (!is_in_sequence) continue;
         while (first > 0 && heap->run[first - 1] == FOUND) first--;
-        while (end < PARTMEM_MOST_SUPERBLOCKS && heap->run[end] == FOUND) end++;
+        while (end < PARTMEM_MAX_SUPERBLOCKS && heap->run[end] == FOUND) end++;
         if (end - first >= count) return first;
     }
     return NO_ROW;
@@ -175,7 +175,7 @@ static uint32_t find_row(partmem_heap *heap, uint32_t count)
 static void *take_run(partmem_heap *heap, uint32_t count)
 {
     const uint32_t first = find_row(heap, count);
-    for (uint32_t slot = 0; slot < PARTMEM_MOST_SUPERBLOCKS; slot++) {
+    for (uint32_t slot = 0; slot < PARTMEM_MAX_SUPERBLOCKS; slot++) {
         if (heap->run[slot] != FOUND && heap->run[slot] != ASIDE) continue;
         if (slot >= first && slot - first < count) {
             heap->run[slot] = slot == first ? (uint16_t)count : IN_RUN;

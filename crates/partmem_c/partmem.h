@@ -106,15 +106,15 @@ extern "C" {
 #endif
 
 #define PARTMEM_FRAME_BYTES 4096u
-#define PARTMEM_LEAST_ORDER 3u /* 32 KiB */
-#define PARTMEM_MOST_ORDER 8u  /* 1 MiB */
-#define PARTMEM_MOST_SUPERBLOCKS 256u
-#define PARTMEM_MOST_TENANTS 64u
-#define PARTMEM_MOST_CACHES 32u /* of a tenant */
-#define PARTMEM_MOST_PATTERN 16u
-#define PARTMEM_MOST_BYTES 64u         /* of a read or a write, and the least buffer of an event */
-#define PARTMEM_MOST_TEXT_BYTES 65792u /* the least buffer of a line */
-#define PARTMEM_NO_PLACE 0xffffffffu   /* the place of no byte, for links that lead nowhere */
+#define PARTMEM_MIN_ORDER 3u /* 32 KiB */
+#define PARTMEM_MAX_ORDER 8u /* 1 MiB */
+#define PARTMEM_MAX_SUPERBLOCKS 256u
+#define PARTMEM_MAX_TENANTS 64u
+#define PARTMEM_MAX_CACHES 32u /* of a tenant */
+#define PARTMEM_MAX_PATTERN 16u
+#define PARTMEM_MAX_BYTES 64u            /* of a read or a write, and the least buffer of an event */
+#define PARTMEM_LINE_BUFFER_BYTES 65792u /* the least buffer of a line */
+#define PARTMEM_NO_PLACE 0xffffffffu     /* the place of no byte, for links that lead nowhere */
 
 /* ---- Status -----------------------------------------------------------------------------------------------------------------
  *
@@ -124,7 +124,7 @@ extern "C" {
  * `at` is NULL. partmem_read, partmem_event and partmem_line say at their declarations what they do instead.
  *
  * No number makes a call write more than its declaration says: a buffer gets the bytes that were read, at most
- * PARTMEM_MOST_BYTES, or the text of a line, at most PARTMEM_MOST_TEXT_BYTES.
+ * PARTMEM_MAX_BYTES, or the text of a line, at most PARTMEM_LINE_BUFFER_BYTES.
  *
  * Each function lists what it returns besides DONE, and returns the first that applies. All functions with a tenant test for
  * NO_MACHINE and then for NO_TENANT, before what they list. Only partmem_write and partmem_make_cache test the number of bytes
@@ -424,8 +424,8 @@ typedef struct partmem_figures {
     uint32_t split;    /* thousandths of the free frames that are outside one largest free block, rounded up */
     uint32_t orders;   /* how many rows of order[] are used: the order of a superblock plus 1 */
     uint32_t caches;   /* how many rows of cache[] are used */
-    partmem_order_row order[PARTMEM_MOST_ORDER + 1];
-    partmem_cache_row cache[PARTMEM_MOST_CACHES];
+    partmem_order_row order[PARTMEM_MAX_ORDER + 1];
+    partmem_cache_row cache[PARTMEM_MAX_CACHES];
 } partmem_figures;
 
 /* Reports the figures of a tenant. */
@@ -494,13 +494,13 @@ typedef struct partmem_reply {
 } partmem_reply;
 
 /* Runs an event and returns its reply; a refusal is a reply. Only PARTMEM_WRITE and PARTMEM_CACHE use `bytes`. The buffer has
- * at least PARTMEM_MOST_BYTES bytes. Returns NO_MACHINE, NOT_AN_EVENT, BUFFER_TOO_SMALL; reply and buffer are then unchanged. */
+ * at least PARTMEM_MAX_BYTES bytes. Returns NO_MACHINE, NOT_AN_EVENT, BUFFER_TOO_SMALL; reply and buffer are then unchanged. */
 PARTMEM_CHECKED partmem_status partmem_event(partmem_machine *machine, const partmem_request *request, const void *bytes,
                                              size_t bytes_len, partmem_reply *reply, void *buffer, size_t buffer_len);
 
 /* Runs a line of a trace, without its line feed. Writes its reply lines, each with a line feed, to the beginning of the buffer,
  * and the number of their bytes to `*written`; the reply to a faulty line says what is wrong. The buffer has at least
- * PARTMEM_MOST_TEXT_BYTES bytes. Returns NO_MACHINE, NOT_A_LINE, BUFFER_TOO_SMALL; `*written` is then 0, and the buffer
+ * PARTMEM_LINE_BUFFER_BYTES bytes. Returns NO_MACHINE, NOT_A_LINE, BUFFER_TOO_SMALL; `*written` is then 0, and the buffer
  * unchanged. */
 PARTMEM_CHECKED partmem_status partmem_line(partmem_machine *machine, const char *line, size_t line_len, char *buffer,
                                             size_t buffer_len, size_t *written);

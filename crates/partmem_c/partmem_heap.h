@@ -72,7 +72,7 @@
 extern "C" {
 #endif
 
-#define PARTMEM_HEAP_MOST_CLASSES 24u /* of a heap: a tenant has 32 caches */
+#define PARTMEM_HEAP_MAX_CLASSES 24u /* of a heap: a tenant has 32 caches */
 #define PARTMEM_HEAP_STEP 16u         /* the sizes of classes, and the addresses of pieces, are multiples of it */
 
 /* How to set up a heap. All 0 means the default classes and no runs. */
@@ -90,13 +90,13 @@ typedef struct partmem_heap {
     uint32_t slots;      /* with runs: how many slots the tenant had at the initialisation; else 0 */
     uint32_t order;      /* of a superblock */
     uint32_t classes;    /* how many classes the heap has */
-    uint16_t size[PARTMEM_HEAP_MOST_CLASSES];                      /* by class: the bytes of its objects */
-    uint16_t align[PARTMEM_HEAP_MOST_CLASSES];                     /* by class: the alignment of its objects */
-    uint8_t cache_of[PARTMEM_HEAP_MOST_CLASSES];                   /* by class: the number of its cache, plus 1; or 0 */
-    uint8_t class_in[PARTMEM_MOST_CACHES];                         /* by cache: the last class that had it, plus 1; or 0 */
+    uint16_t size[PARTMEM_HEAP_MAX_CLASSES];                      /* by class: the bytes of its objects */
+    uint16_t align[PARTMEM_HEAP_MAX_CLASSES];                     /* by class: the alignment of its objects */
+    uint8_t cache_of[PARTMEM_HEAP_MAX_CLASSES];                   /* by class: the number of its cache, plus 1; or 0 */
+    uint8_t class_in[PARTMEM_MAX_CACHES];                         /* by cache: the last class that had it, plus 1; or 0 */
     uint8_t class_of[PARTMEM_FRAME_BYTES / PARTMEM_HEAP_STEP + 1]; /* by size in steps, rounded up: the class, or `classes` */
     /* By slot: the number of superblocks of the run that begins there, 0xffff inside a run, and 0 otherwise. */
-    uint16_t run[PARTMEM_MOST_SUPERBLOCKS];
+    uint16_t run[PARTMEM_MAX_SUPERBLOCKS];
 } partmem_heap;
 
 /* Initialises the heap of a tenant. `config` is NULL for the default classes and no runs. Returns NO_MACHINE or NO_TENANT as a

@@ -227,7 +227,7 @@ PARTMEM_INLINE void partmem_watched_print_leak(uint32_t tenant, const partmem_ob
  * Returns how many have been found now. Objects begin at multiples of 8. */
 PARTMEM_INLINE uint32_t partmem_watched_print_slot(partmem_tenant tenant, uint32_t slot, uint32_t slot_bytes, uint32_t pieces)
 {
-    enum { MOST_LINES = 100 };
+    enum { MAX_LINES = 100 };
     partmem_object object;
     partmem_block block;
     uint32_t begin = slot * slot_bytes, offset = 0;
@@ -235,7 +235,7 @@ PARTMEM_INLINE uint32_t partmem_watched_print_slot(partmem_tenant tenant, uint32
         if (block.use != PARTMEM_PAGE_BLOCK && block.use != PARTMEM_SLAB) {
             offset = block.place + block.bytes - begin;
         } else if (partmem_find_object(tenant, begin + offset, &object) == PARTMEM_DONE) {
-            if (pieces++ < MOST_LINES) partmem_watched_print_leak(tenant.number, &object);
+            if (pieces++ < MAX_LINES) partmem_watched_print_leak(tenant.number, &object);
             offset = object.place - begin + (object.bytes + 7) / 8 * 8;
         } else {
             offset += 8;
@@ -251,8 +251,8 @@ PARTMEM_INLINE void partmem_watched_print_leaks(partmem_machine *machine)
     partmem_slot found;
     uint32_t pieces = 0, slot;
     tenant.machine = machine;
-    for (tenant.number = 0; tenant.number < PARTMEM_MOST_TENANTS; tenant.number++) {
-        for (slot = 0; slot < PARTMEM_MOST_SUPERBLOCKS; slot++) {
+    for (tenant.number = 0; tenant.number < PARTMEM_MAX_TENANTS; tenant.number++) {
+        for (slot = 0; slot < PARTMEM_MAX_SUPERBLOCKS; slot++) {
             if (partmem_find_slot(tenant, slot, &found) == PARTMEM_DONE) {
                 pieces = partmem_watched_print_slot(tenant, slot, slot_bytes, pieces);
             }
@@ -287,7 +287,7 @@ typedef struct partmem_watched_ending {
     uint32_t place;
     partmem_watched_piece piece; /* the live one that contains the place; it has 0 bytes if there is none */
     uint32_t slots;
-    partmem_slot slot[PARTMEM_MOST_SUPERBLOCKS];
+    partmem_slot slot[PARTMEM_MAX_SUPERBLOCKS];
 } partmem_watched_ending;
 
 PARTMEM_INLINE void partmem_watched_note_slot(partmem_watched_ending *ending, uint32_t slot)
@@ -322,7 +322,7 @@ PARTMEM_INLINE void partmem_watched_before(partmem_watched_ending *ending, partm
     if (kind == PARTMEM_GIVE) partmem_watched_note_place(ending, second);
     if (kind == PARTMEM_TAKE_BACK || kind == PARTMEM_MOVE) partmem_watched_note_slot(ending, first);
     if (kind == PARTMEM_RESET) {
-        for (slot = 0; slot < PARTMEM_MOST_SUPERBLOCKS; slot++) partmem_watched_note_slot(ending, slot);
+        for (slot = 0; slot < PARTMEM_MAX_SUPERBLOCKS; slot++) partmem_watched_note_slot(ending, slot);
     }
 }
 
@@ -528,7 +528,7 @@ PARTMEM_INLINE void *partmem_watched_object_at(partmem_tenant tenant, uint32_t c
 /* Reads and writes pass their bytes through a copy, since the tools do not see what the library does with the caller's bytes. */
 PARTMEM_INLINE partmem_status partmem_watched_read_bytes(partmem_tenant tenant, uint32_t place, void *to, size_t bytes)
 {
-    unsigned char copy[PARTMEM_MOST_BYTES];
+    unsigned char copy[PARTMEM_MAX_BYTES];
     partmem_status status;
     partmem_watched_enter();
     status = partmem_read(tenant, place, copy, bytes);
@@ -541,7 +541,7 @@ PARTMEM_INLINE partmem_status partmem_watched_read_bytes(partmem_tenant tenant, 
 
 PARTMEM_INLINE partmem_status partmem_watched_write_bytes(partmem_tenant tenant, uint32_t place, const void *from, size_t bytes)
 {
-    unsigned char copy[PARTMEM_MOST_BYTES] = {0};
+    unsigned char copy[PARTMEM_MAX_BYTES] = {0};
     partmem_status status;
     if (bytes <= sizeof copy) memcpy(copy, from, bytes);
     partmem_watched_enter();

@@ -46,7 +46,7 @@ static void check_init(void)
 {
     static const uint16_t zero[] = {0}, odd[] = {16, 40}, falling[] = {32, 16}, twice[] = {16, 16}, large[] = {16, 4112};
     static const uint16_t good[] = {16, 4096};
-    uint16_t many[PARTMEM_HEAP_MOST_CLASSES + 1];
+    uint16_t many[PARTMEM_HEAP_MAX_CLASSES + 1];
     for (size_t i = 0; i < LEN(many); i++) many[i] = (uint16_t)(16 * (i + 1));
     check_refused(init((partmem_tenant){&none, 0}, zero, 1, 1), PARTMEM_NO_MACHINE);
     check_refused(init((partmem_tenant){&machine, 9}, zero, 1, 1), PARTMEM_NO_TENANT);
@@ -209,11 +209,11 @@ static void check_no_cache(void)
     MUST(partmem_heap_init(&heap, first, NULL) == PARTMEM_DONE);
     for (uint32_t class = 0; class < heap.classes; class++) MUST(partmem_heap_malloc(&heap, heap.size[class]));
     while (partmem_make_cache(first, 8, 8, "", 1, &made) == PARTMEM_DONE) count++;
-    MUST(count == PARTMEM_MOST_CACHES - PARTMEM_HEAP_MOST_CLASSES);
+    MUST(count == PARTMEM_MAX_CACHES - PARTMEM_HEAP_MAX_CLASSES);
     MUST(partmem_reset(first) == PARTMEM_DONE);
     grant(first, SLOTS);
     MUST(partmem_heap_init(&heap, first, NULL) == PARTMEM_DONE);
-    for (count = 1; count < PARTMEM_MOST_CACHES; count++) MUST(partmem_make_cache(first, 8, 8, "", 1, &made) == PARTMEM_DONE);
+    for (count = 1; count < PARTMEM_MAX_CACHES; count++) MUST(partmem_make_cache(first, 8, 8, "", 1, &made) == PARTMEM_DONE);
     unsigned char *at = partmem_heap_malloc(&heap, 1000), *small = partmem_heap_malloc(&heap, 10);
     unsigned char *large = partmem_heap_malloc(&heap, 2000);
     MUST(at && small && large && partmem_heap_usable_size(&heap, at) == 1024 && partmem_heap_usable_size(&heap, small) == 1024);

@@ -29,7 +29,7 @@ struct user {
     partmem_tenant tenant;
     partmem_heap heap;
     struct piece pieces[PIECES];
-    uint16_t direct[PARTMEM_MOST_CACHES]; /* the sizes of the caches that direct calls made; 0 for others */
+    uint16_t direct[PARTMEM_MAX_CACHES]; /* the sizes of the caches that direct calls made; 0 for others */
     uint64_t random, hash;
     bool is_filling; /* whether it allocates more than it frees */
     unsigned long calls, refused, wrong_frees, moved, runs, changes;
@@ -314,7 +314,7 @@ static void release(struct user *user, struct piece *piece)
 static uint32_t direct_caches(const struct user *user)
 {
     uint32_t count = 0;
-    for (uint32_t cache = 0; cache < PARTMEM_MOST_CACHES; cache++) count += user->direct[cache] > 0;
+    for (uint32_t cache = 0; cache < PARTMEM_MAX_CACHES; cache++) count += user->direct[cache] > 0;
     return count;
 }
 
@@ -337,7 +337,7 @@ static void make_cache(struct user *user)
 /* Reaps, makes a cache, or tries to destroy a random cache, which may be one of the heap's. */
 static void administer(struct user *user)
 {
-    uint32_t cache = any_of(user, PARTMEM_MOST_CACHES), frames;
+    uint32_t cache = any_of(user, PARTMEM_MAX_CACHES), frames;
     switch (any_of(user, 8)) {
     case 0: MUST(partmem_reap(user->tenant, &frames) == PARTMEM_DONE); break;
     case 1: case 2: case 3:
@@ -356,7 +356,7 @@ static void add_direct(struct user *user, struct piece *piece, const partmem_len
 
 static void take_direct(struct user *user, struct piece *piece)
 {
-    const uint32_t cache = any_of(user, PARTMEM_MOST_CACHES);
+    const uint32_t cache = any_of(user, PARTMEM_MAX_CACHES);
     partmem_lent lent;
     if (any_of(user, 4) == 0) {
         if (partmem_alloc(user->tenant, any_of(user, 3), &lent) == PARTMEM_DONE) add_direct(user, piece, &lent, BLOCK, 0);

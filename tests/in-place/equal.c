@@ -7,11 +7,11 @@
 
 #include "trial.h"
 
-enum { MOST_KEPT = 64, MOST_STORED = 300 };
+enum { MAX_KEPT = 64, MAX_STORED = 300 };
 
 static partmem_machine machine;
 static uint32_t order, superblocks, tenants, superblock_bytes;
-static uint32_t kept[MOST_KEPT], kept_count; /* places of blocks and objects, kept in a ring */
+static uint32_t kept[MAX_KEPT], kept_count; /* places of blocks and objects, kept in a ring */
 static FILE *trace, *replies;
 static unsigned done, refused, in_place;
 
@@ -19,14 +19,14 @@ static unsigned done, refused, in_place;
 static uint32_t t, cache, place;
 static partmem_tenant me;
 
-static void keep(uint32_t found) { kept[kept_count++ % MOST_KEPT] = found; }
+static void keep(uint32_t found) { kept[kept_count++ % MAX_KEPT] = found; }
 
 static void choose(void)
 {
     t = any(tenants + rarely(50));
     me = (partmem_tenant){&machine, t};
     cache = any(rarely(20) ? 40 : 5);
-    place = rarely(4) ? any(superblocks * superblock_bytes) : kept[any(MOST_KEPT)];
+    place = rarely(4) ? any(superblocks * superblock_bytes) : kept[any(MAX_KEPT)];
     if (rarely(4)) place += any(2) ? 8 * any(100) : 4096 * any(4);
 }
 
@@ -58,7 +58,7 @@ static bool reply(bool is_admin, partmem_status status, const char *format, ...)
 
 static const char *hex(const void *bytes, size_t count)
 {
-    static char text[2 * PARTMEM_MOST_BYTES + 1];
+    static char text[2 * PARTMEM_MAX_BYTES + 1];
     text[0] = 0;
     for (size_t i = 0; i < count; i++) sprintf(text + 2 * i, "%02x", ((const uint8_t *)bytes)[i]);
     return text;
@@ -73,12 +73,12 @@ static uint32_t order_of(uint32_t bytes)
 
 /* ---- loads and stores in place ---- */
 
-/* Writes lines that read the first bytes of what was lent, with their replies. Each line reads at most PARTMEM_MOST_BYTES. */
+/* Writes lines that read the first bytes of what was lent, with their replies. Each line reads at most PARTMEM_MAX_BYTES. */
 static void loaded(const partmem_lent *lent)
 {
-    uint32_t most = lent->bytes < MOST_STORED ? lent->bytes : MOST_STORED, piece;
+    uint32_t most = lent->bytes < MAX_STORED ? lent->bytes : MAX_STORED, piece;
     for (uint32_t from = 0; from < most; from += piece) {
-        piece = most - from < PARTMEM_MOST_BYTES ? most - from : PARTMEM_MOST_BYTES;
+        piece = most - from < PARTMEM_MAX_BYTES ? most - from : PARTMEM_MAX_BYTES;
         line("%u read %u %u", t, lent->place + from, piece);
         reply(false, PARTMEM_DONE, "bytes %s", hex((uint8_t *)lent->at + from, piece));
     }
@@ -89,7 +89,7 @@ static void load(void)
 {
     partmem_lent lent;
     partmem_object around;
-    uint32_t bytes = 1 + any(PARTMEM_MOST_BYTES);
+    uint32_t bytes = 1 + any(PARTMEM_MAX_BYTES);
     partmem_status found = partmem_find_object(me, place, &around), status = partmem_lend(me, place, bytes, &lent);
     bool is_inside = found == PARTMEM_DONE && bytes <= around.bytes - (place - around.place);
     MUST(status == (found == PARTMEM_DONE && !is_inside ? PARTMEM_OUT_OF_REACH : found));
@@ -101,16 +101,16 @@ static void load(void)
     }
 }
 
-/* Stores bytes in place, and writes the lines that store them, with the replies. A line stores at most PARTMEM_MOST_BYTES. */
+/* Stores bytes in place, and writes the lines that store them, with the replies. A line stores at most PARTMEM_MAX_BYTES. */
 static void store(void)
 {
     partmem_lent lent;
-    uint32_t bytes = 1 + any(rarely(2) ? MOST_STORED : PARTMEM_MOST_BYTES), piece;
+    uint32_t bytes = 1 + any(rarely(2) ? MAX_STORED : PARTMEM_MAX_BYTES), piece;
     if (partmem_lend(me, place, bytes, &lent) != PARTMEM_DONE) return;
     uint8_t *at = lent.at;
     for (uint32_t i = 0; i < bytes; i++) at[i] = (uint8_t)any(256);
     for (uint32_t from = 0; from < bytes; from += piece) {
-        piece = bytes - from < PARTMEM_MOST_BYTES ? bytes - from : PARTMEM_MOST_BYTES;
+        piece = bytes - from < PARTMEM_MAX_BYTES ? bytes - from : PARTMEM_MAX_BYTES;
         line("%u write %u %s", t, place + from, hex(at + from, piece));
         reply(false, PARTMEM_DONE, "written %u", piece);
     }
@@ -179,7 +179,7 @@ static void release(void)
 
 static void read_bytes(void)
 {
-    uint8_t bytes[PARTMEM_MOST_BYTES + 2];
+    uint8_t bytes[PARTMEM_MAX_BYTES + 2];
     uint32_t count = any(sizeof bytes + 1);
     line("%u read %u %u", t, place, count);
     partmem_status status = partmem_read(me, place, bytes, count);
@@ -188,7 +188,7 @@ static void read_bytes(void)
 
 static void write_bytes(void)
 {
-    uint8_t bytes[PARTMEM_MOST_BYTES];
+    uint8_t bytes[PARTMEM_MAX_BYTES];
     uint32_t count = 1 + any(sizeof bytes);
     for (uint32_t i = 0; i < count; i++) bytes[i] = (uint8_t)any(256);
     line("%u write %u %s", t, place, hex(bytes, count));
@@ -263,7 +263,7 @@ static void report(void)
 /* Writes the line `admin pool`, and its reply from what partmem_find_superblock returns for each superblock. */
 static void pool(void)
 {
-    partmem_owner owners[PARTMEM_MOST_SUPERBLOCKS];
+    partmem_owner owners[PARTMEM_MAX_SUPERBLOCKS];
     uint32_t free_ones = 0;
     line("admin pool");
     for (uint32_t m = 0; m < superblocks; m++) {
@@ -280,7 +280,7 @@ static void pool(void)
 /* Make a request with partmem_line, and another with partmem_event. */
 static void run_line(void)
 {
-    static char buffer[PARTMEM_MOST_TEXT_BYTES];
+    static char buffer[PARTMEM_LINE_BUFFER_BYTES];
     char text[64];
     size_t written;
     int len = rarely(2) ? sprintf(text, "%u take %u", t, cache) : sprintf(text, "%u free %u", t, place / PARTMEM_FRAME_BYTES);
@@ -293,7 +293,7 @@ static void run_event(void)
 {
     partmem_request request = {PARTMEM_ALLOC, t, any(order + 2), 0};
     partmem_reply got;
-    uint8_t buffer[PARTMEM_MOST_BYTES];
+    uint8_t buffer[PARTMEM_MAX_BYTES];
     line("%u alloc %u", t, request.first);
     MUST(partmem_event(&machine, &request, "", 0, &got, buffer, sizeof buffer) == PARTMEM_DONE);
     partmem_status status = got.kind == PARTMEM_REFUSED ? (partmem_status)got.first : PARTMEM_DONE;

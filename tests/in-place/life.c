@@ -164,7 +164,7 @@ static void reset(uint32_t t)
 /* Checks that reads return what is stored in place, and that a write changes the bytes in place. */
 static void read_and_write(uint32_t t, const struct range *range)
 {
-    uint8_t bytes[PARTMEM_MOST_BYTES], other;
+    uint8_t bytes[PARTMEM_MAX_BYTES], other;
     if (!range->is_live) return;
     partmem_tenant me = tenant_of(t);
     uint8_t *at = range->lent.at;

@@ -96,7 +96,7 @@ static void check_wild_lengths(uint32_t place)
 {
     static const size_t wild[] = {65, 4096, 1 << 20, INT32_MAX, UINT32_MAX, 1 + (size_t)UINT32_MAX, 9 + (size_t)UINT32_MAX,
                                   SIZE_MAX / 2, SIZE_MAX - 7, SIZE_MAX};
-    static char text[PARTMEM_MOST_TEXT_BYTES + sizeof fenced];
+    static char text[PARTMEM_LINE_BUFFER_BYTES + sizeof fenced];
     size_t written;
     for (size_t i = 0; i < LEN(wild); i++) {
         MUST(KEPT(partmem_read(first, place, fenced.inside, wild[i]), PARTMEM_BAD_LENGTH, fenced));
@@ -109,7 +109,7 @@ static void check_wild_lengths(uint32_t place)
         const size_t text_len = wild[i] < sizeof text ? sizeof text : wild[i];
         memset(text, UNTOUCHED, sizeof text);
         MUST(partmem_line(&machine, "admin pool", 10, text, text_len, &written) == PARTMEM_DONE);
-        MUST(written <= PARTMEM_MOST_TEXT_BYTES && are_all(text + written, UNTOUCHED, sizeof text - written));
+        MUST(written <= PARTMEM_LINE_BUFFER_BYTES && are_all(text + written, UNTOUCHED, sizeof text - written));
     }
     for (size_t count = 1; count <= sizeof fenced.inside; count++) {
         memset(&fenced, UNTOUCHED, sizeof fenced);
@@ -203,7 +203,7 @@ static void check_refusals(void)
 
 static void check_events(void)
 {
-    static char text[PARTMEM_MOST_TEXT_BYTES];
+    static char text[PARTMEM_LINE_BUFFER_BYTES];
     partmem_request request = {PARTMEM_ALLOC, 0, 9, 0};
     partmem_reply reply = {7, 7, 7, 7, 7, 7};
     size_t written = 7;

@@ -8,7 +8,7 @@
 
 #include "trial.h"
 
-enum { BLOCKS = 4, OBJECTS = 100, RANGES = BLOCKS + OBJECTS, TENANTS = 3, LEAST_ROUNDS = 50 };
+enum { BLOCKS = 4, OBJECTS = 100, RANGES = BLOCKS + OBJECTS, TENANTS = 3, MIN_ROUNDS = 50 };
 
 static partmem_machine machine;
 static pthread_mutex_t lock = PTHREAD_MUTEX_INITIALIZER;
@@ -80,7 +80,7 @@ static void call_for_same(partmem_tenant same, unsigned *random)
 static void *make_calls(void *least)
 {
     unsigned random = 7;
-    for (; calls < *(const unsigned long *)least || rounds < LEAST_ROUNDS; calls++) {
+    for (; calls < *(const unsigned long *)least || rounds < MIN_ROUNDS; calls++) {
         pthread_mutex_lock(&lock);
         uint32_t number = (uint32_t)rand_r(&random) % TENANTS;
         if (number) call_for_other((partmem_tenant){&machine, number}, &random);

@@ -23,8 +23,8 @@ enum {
 };
 
 static uint32_t superblock_bytes;
-static uint8_t *begins[PARTMEM_MOST_SUPERBLOCKS];                                /* of superblocks that have had a block */
-static uint8_t *begins_of_slots[PARTMEM_MOST_TENANTS][PARTMEM_MOST_SUPERBLOCKS]; /* of slots, at their first lend */
+static uint8_t *begins[PARTMEM_MAX_SUPERBLOCKS];                                /* of superblocks that have had a block */
+static uint8_t *begins_of_slots[PARTMEM_MAX_TENANTS][PARTMEM_MAX_SUPERBLOCKS]; /* of slots, at their first lend */
 static uint8_t *of_tenant_0;                                                     /* its first block */
 
 /* partmem_boot calls this function too. */
@@ -89,7 +89,7 @@ static partmem_status alloc_by_event(partmem_tenant tenant, uint32_t order, part
 {
     partmem_request request = {PARTMEM_ALLOC, tenant.number, order, 0};
     partmem_reply reply;
-    uint8_t buffer[PARTMEM_MOST_BYTES];
+    uint8_t buffer[PARTMEM_MAX_BYTES];
     partmem_status status = partmem_event(tenant.machine, &request, "", 0, &reply, buffer, sizeof buffer);
     memset(block, 0, sizeof *block);
     if (status != PARTMEM_DONE) return status;

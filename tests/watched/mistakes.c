@@ -41,7 +41,7 @@ static int end(void)
 
 static void run_line(const char *line)
 {
-    static char buffer[PARTMEM_MOST_TEXT_BYTES];
+    static char buffer[PARTMEM_LINE_BUFFER_BYTES];
     size_t written;
     if (partmem_line(&machine, line, strlen(line), buffer, sizeof buffer, &written) != PARTMEM_DONE) exit(4);
 }
@@ -50,7 +50,7 @@ static void run_event(uint32_t kind, uint32_t first, uint32_t second)
 {
     const partmem_request request = {kind, 1, first, second};
     partmem_reply reply;
-    char buffer[PARTMEM_MOST_BYTES];
+    char buffer[PARTMEM_MAX_BYTES];
     if (partmem_event(&machine, &request, "", 0, &reply, buffer, sizeof buffer) != PARTMEM_DONE) exit(5);
 }
 

@@ -17,7 +17,7 @@ impl RawHeap {
     /// Initialises a heap. If there are no sizes, it has the default classes.
     pub(crate) fn new(tenant: sys::Tenant, sizes: &[u16], has_runs: bool) -> Result<RawHeap, Error> {
         // Copies the sizes: they may lie in lent bytes, and no argument of the library may lie there.
-        let mut copy = [0; sys::MOST_CLASSES];
+        let mut copy = [0; sys::MAX_CLASSES];
         copy.get_mut(..sizes.len()).ok_or(Error::BadConfig)?.copy_from_slice(sizes);
         let config = sys::HeapConfig { sizes: copy.as_ptr(), count: sizes.len() as u32, has_runs: has_runs.into() };
         let mut raw = sys::Heap::none();

@@ -6,8 +6,8 @@ use core::ptr::{self, NonNull};
 use core::sync::atomic::{AtomicU64, Ordering};
 use core::{fmt, slice};
 
-const MOST_PATTERN: usize = 16;
-const MOST_TENANTS: usize = 64;
+const MAX_PATTERN: usize = 16;
+const MAX_TENANTS: usize = 64;
 static STAMPS: AtomicU64 = AtomicU64::new(0);
 
 /// Returns a number that it has never returned before.
@@ -85,7 +85,7 @@ pub struct Machine {
     #[cfg(feature = "std")]
     owned: Option<Region>,
     /// The stamp of each tenant. A reset gives the tenant a new one, so that older handles are refused.
-    stamps: [Cell<u64>; MOST_TENANTS],
+    stamps: [Cell<u64>; MAX_TENANTS],
     /// How many moves have been requested, including refused ones. If a handle has the same number, its address is right.
     moves: Cell<u64>,
 }
@@ -136,7 +136,7 @@ impl Machine {
         };
         // SAFETY: the machine stays where it is until the region is free again. RAM and tables have the sizes of this config.
         done(alone(|| unsafe { sys::partmem_boot_in(raw.as_ptr(), &config, &memory) }))?;
-        let stamps = [(); MOST_TENANTS].map(|()| Cell::new(new_stamp()));
+        let stamps = [(); MAX_TENANTS].map(|()| Cell::new(new_stamp()));
         Ok(Machine {
             raw,
             config,
@@ -254,11 +254,11 @@ impl Machine {
     /// Makes a cache of objects of `size` bytes, 1 to 4096, at multiples of `align`: 8, 16, 32, 64, 128 or 256. The pattern, of 1
     /// to 16 bytes, is repeated in each new object.
     pub fn make_cache(&self, tenant: Tenant, size: u32, align: u32, pattern: &[u8]) -> Result<Cache, Error> {
-        if pattern.is_empty() || pattern.len() > MOST_PATTERN {
+        if pattern.is_empty() || pattern.len() > MAX_PATTERN {
             return Err(Error::BadPattern);
         }
         // Copies the pattern: it may lie in lent bytes, and no argument of the library may lie there.
-        let (mut copy, of, bytes) = ([0; MOST_PATTERN], self.of(tenant), pattern.len());
+        let (mut copy, of, bytes) = ([0; MAX_PATTERN], self.of(tenant), pattern.len());
         copy[..bytes].copy_from_slice(pattern);
         // SAFETY: the machine is booted, no other call of it runs, and the result goes to a local variable. The copy has at
         // least `bytes` bytes.

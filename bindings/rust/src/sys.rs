@@ -44,16 +44,16 @@ pub struct Heap {
     tenant: Tenant,
     base: *mut u8,
     numbers: [u32; 3],
-    sizes: [u16; MOST_CLASSES],
-    aligns: [u16; MOST_CLASSES],
+    sizes: [u16; MAX_CLASSES],
+    aligns: [u16; MAX_CLASSES],
     /// For each class, the number of its cache plus 1, or 0 if the class has no cache.
-    pub cache_of: [u8; MOST_CLASSES],
+    pub cache_of: [u8; MAX_CLASSES],
     class_in: [u8; 32],
     class_of: [u8; 257],
     run: [u16; 256],
 }
 
-pub const MOST_CLASSES: usize = 24;
+pub const MAX_CLASSES: usize = 24;
 
 // The sizes that tests/layout.c checks in the headers.
 const _: () = assert!(size_of::<Machine>() == 24 && size_of::<Tenant>() == 16 && size_of::<Lent>() == 16);

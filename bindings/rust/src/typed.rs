@@ -6,7 +6,7 @@ use core::mem::{align_of, size_of, ManuallyDrop};
 use core::ops::{Deref, DerefMut};
 use core::ptr::{self, NonNull};
 
-const LEAST_ALIGN: usize = 8;
+const MIN_ALIGN: usize = 8;
 
 /// A cache of values of type `T`. Dropping it destroys it, and frees its slabs. If an object was leaked, the cache stays until
 /// its tenant is reset.
@@ -37,7 +37,7 @@ impl<'c, T> Cache<'c, T> {
     /// Makes a cache. Fails with `BadSize` (above 4096 bytes), `BadAlign` (above 256), `NoCacheSlot` (32 caches).
     pub(crate) fn new(client: &'c Client<'c>) -> Result<Cache<'c, T>, Error> {
         let number = |it: usize| u32::try_from(it).unwrap_or(u32::MAX);
-        let (size, align) = (number(size_of::<T>().max(1)), number(align_of::<T>().max(LEAST_ALIGN)));
+        let (size, align) = (number(size_of::<T>().max(1)), number(align_of::<T>().max(MIN_ALIGN)));
         Ok(Cache { client, cache: client.make_cache(size, align, b"\0")?, values: PhantomData })
     }
 

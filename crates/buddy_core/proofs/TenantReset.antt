@@ -4,7 +4,7 @@ use Rattle.std.specs.Int.{bit_at}
 use Rattle.std.proofs.lemmas.List.{get_or-set_same, get_or-set_other}
 use Rattle.std.proofs.lemmas.Option.{none-some, same_Some}
 use Rattle.std.proofs.lemmas.Bool.{cases_lt, cases_eq}
-use Rattle.model_core.specs.declared.limits.TheConstants.{MOST_SUPERBLOCKS, MOST_TENANTS}
+use Rattle.model_core.specs.declared.limits.TheConstants.{MAX_SUPERBLOCKS, MAX_TENANTS}
 use Rattle.model_core.proofs.Lists.{everywhere}
 use Rattle.buddy_core.specs.Content.{with_holding, nothing_held}
 use Rattle.buddy_core.specs.Stored.{StoredSuperblock, StoredTenant, bare_superblock, bare_tenant, superblock_of, stored_tenant, superblock_at, taken_by, content_shown}
@@ -135,8 +135,8 @@ module _ (top : ℕ) (superblocks : List StoredSuperblock) (tenants : List Store
   pub reset_kept : IsKept top after (set tenants t (bare_tenant top (length superblocks)))
   reset_kept = record {
     small = kept.small;
-    few = subst (λ l. l ≤ MOST_SUPERBLOCKS) (sym c.size) kept.few;
-    few_tenants = subst (λ l. l ≤ MOST_TENANTS) (sym (length-set tenants t (bare_tenant top (length superblocks)))) kept.few_tenants;
+    few = subst (λ l. l ≤ MAX_SUPERBLOCKS) (sym c.size) kept.few;
+    few_tenants = subst (λ l. l ≤ MAX_TENANTS) (sym (length-set tenants t (bare_tenant top (length superblocks)))) kept.few_tenants;
     order = λ i lt. order_now i lt (superblock_now i (under (stored_tenant t tenants) i n));
     each = λ v lt. each_kept v lt (cases_eq v t);
     apart = λ v u z w i a b. kept.apart v u z w i (was v u i a (cases_eq v t)) (was z w i b (cases_eq z t));

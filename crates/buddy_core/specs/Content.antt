@@ -1,7 +1,7 @@
 -- What each tenant holds in the buddy system: its slots with their superblocks, and its taken blocks. Free blocks are not part of
 -- the content, because they follow from the held slots and the taken blocks.
 use Rattle.std.specs.Prelude.{ℕ, ◌≡◌, ◌*◌, ◌^◌, ◌<◌, ◌≤◌, ◌==◌, Bool, false, Option, Some, None, is_some, List, [], length, replicate, slice_index_or, slice_set, count_by}
-use Rattle.model_core.specs.declared.limits.TheConstants.{MOST_ORDER, MOST_SUPERBLOCKS, MOST_TENANTS}
+use Rattle.model_core.specs.declared.limits.TheConstants.{MAX_ORDER, MAX_SUPERBLOCKS, MAX_TENANTS}
 use Rattle.model_core.specs.Blocks.{Taken, block, IsSound}
 use Rattle.model_core.specs.Choice.{is_free, count_below}
 
@@ -80,9 +80,9 @@ held_slots h = count_by is_some h.slots
 
 -- the sizes of a machine are within the limits, and each tenant has an entry for each slot and for each frame
 pub record IsSized (c : Content) : Type 0 where
-  pub small : c.top ≤ MOST_ORDER
-  pub few : c.superblocks ≤ MOST_SUPERBLOCKS
-  pub tenants : length c.tenants ≤ MOST_TENANTS
+  pub small : c.top ≤ MAX_ORDER
+  pub few : c.superblocks ≤ MAX_SUPERBLOCKS
+  pub tenants : length c.tenants ≤ MAX_TENANTS
   pub slots : (t : ℕ) → t < length c.tenants → length (holding_of t c).slots ≡ c.superblocks
   pub taken : (t : ℕ) → t < length c.tenants → length (holding_of t c).taken ≡ c.superblocks * 2 ^ c.top
 

@@ -1,7 +1,7 @@
 -- The orders of the free blocks in the superblocks of one tenant, according to the root words of their trees.
 use Rattle.std.specs.Prelude.{◌≡◌, ◌↔◌, ℕ, ◌+◌, ◌<◌, ◌≤◌, Option, Some, None, List, length, slice_index, slice_index_or}
 use Rattle.std.specs.Int.{bit_at}
-use Rattle.model_core.specs.declared.limits.TheConstants.{MOST_ORDER, MOST_SUPERBLOCKS}
+use Rattle.model_core.specs.declared.limits.TheConstants.{MAX_ORDER, MAX_SUPERBLOCKS}
 use Rattle.buddy_core.specs.declared.find.Source.{Source}
 use Rattle.buddy_core.specs.Stored.{StoredSuperblock, StoredTenant, superblock_of}
 
@@ -10,12 +10,12 @@ pub record IsEnd (slots : List (Option ℕ)) (end : ℕ) : Type 0 where
   pub within : end ≤ length slots
   pub rest : (u : ℕ) → end ≤ u → slice_index_or slots u None ≡ None
 
--- A tenant has at most MOST_SUPERBLOCKS slots, and neither slot `end` nor a later slot has a superblock. For each of at most
--- MOST_ORDER + 1 orders, the tenant has a count of free blocks and a count of taken blocks.
+-- A tenant has at most MAX_SUPERBLOCKS slots, and neither slot `end` nor a later slot has a superblock. For each of at most
+-- MAX_ORDER + 1 orders, the tenant has a count of free blocks and a count of taken blocks.
 pub record IsStoredTenant (slots : List (Option ℕ)) (end : ℕ) (free taken : List ℕ) : Type 0 where
   pub ends : IsEnd slots end
-  pub few : length slots ≤ MOST_SUPERBLOCKS
-  pub orders : length free ≤ MOST_ORDER + 1
+  pub few : length slots ≤ MAX_SUPERBLOCKS
+  pub orders : length free ≤ MAX_ORDER + 1
   pub alike : length taken ≡ length free
 
 -- bit j of the root word of superblock m is 1, so the superblock has a free block of order j

@@ -1,7 +1,7 @@
 //! The search for the free block from which an allocation is taken. It uses the tenant's counts and the root words of the trees.
 
 ghost use Rattle.std.specs.Prelude.{◌≡◌, ℕ, ◌/◌, ◌<◌, ◌≤◌, Some, None, length, slice_index_or, MatchOption};
-ghost use Rattle.model_core.specs.declared.limits.TheConstants.{MOST_SUPERBLOCKS};
+ghost use Rattle.model_core.specs.declared.limits.TheConstants.{MAX_SUPERBLOCKS};
 ghost use Rattle.buddy_core.specs.Roots.{HasBit, IsCounted, IsThere, IsWithoutOrder, IsSource};
 ghost use Rattle.buddy_core.specs.Summary.{IsBounded, HasNoneIn};
 ghost use Rattle.buddy_core.specs.declared.summaries.TheConstants.{GROUP_SLOTS, GROUPS};
@@ -55,7 +55,7 @@ fn first_in(
     order: u8,
 ) -> Option<Source>
     requires there { IsThere superblocks.now slots.now }
-    requires few { length slots.now ≤ MOST_SUPERBLOCKS }
+    requires few { length slots.now ≤ MAX_SUPERBLOCKS }
     requires group { group < GROUPS }
     requires order { order < 16 }
     ensures { MatchOption result (HasNoneIn superblocks.now slots.now group order)

@@ -2,7 +2,7 @@
 
 ghost use Rattle.std.specs.Prelude.{◌≡◌, ◌≢◌, ℕ, ◌/◌, ◌<◌, ◌≤◌, replicate, slice_index, MatchOption};
 ghost use Rattle.std.specs.Int.{bit_at};
-ghost use Rattle.model_core.specs.declared.limits.TheConstants.{MOST_SUPERBLOCKS};
+ghost use Rattle.model_core.specs.declared.limits.TheConstants.{MAX_SUPERBLOCKS};
 
 use std::marker::Model;
 
@@ -64,7 +64,7 @@ impl Summary {
 
     /// Notes that the superblock in `slot` has a free block of `order`.
     pub fn note(&mut self, slot: u32, order: u8)
-        requires slot { slot < MOST_SUPERBLOCKS }
+        requires slot { slot < MAX_SUPERBLOCKS }
         requires order { order < ORDERS }
         ensures noted { bit_at (slice_index self.new order) (slot / GROUP_SLOTS) ≡ 1 }
         ensures kept { (j b : ℕ) → bit_at (slice_index self.old j) b ≡ 1 → bit_at (slice_index self.new j) b ≡ 1 }
@@ -74,7 +74,7 @@ impl Summary {
 
     /// Notes that the superblock in `slot` has free blocks of the orders `from` to `to - 1`.
     pub fn note_halves(&mut self, slot: u32, from: u8, to: u8)
-        requires slot { slot < MOST_SUPERBLOCKS }
+        requires slot { slot < MAX_SUPERBLOCKS }
         requires orders { to ≤ ORDERS }
         ensures noted { (j : ℕ) → from ≤ j → j < to → bit_at (slice_index self.new j) (slot / GROUP_SLOTS) ≡ 1 }
         ensures kept { (j b : ℕ) → bit_at (slice_index self.old j) b ≡ 1 → bit_at (slice_index self.new j) b ≡ 1 }

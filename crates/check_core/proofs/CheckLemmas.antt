@@ -19,7 +19,7 @@ use Rattle.check_core.specs.declared.finding.Breach.{Breach}
 use Rattle.check_core.specs.declared.finding.Finding.TheVariants.{Broken, Kept}
 use Rattle.check_core.specs.declared.gathered.Gathered.{Gathered}
 use Rattle.check_core.specs.Checking.{ComesToAdd, HasGathered, IsBreachAt, IsKnownAfter, IsLineOrNone}
-use Rattle.check_core.specs.declared.shown.TheConstants.{MOST_TEXT_BYTES}
+use Rattle.check_core.specs.declared.shown.TheConstants.{MAX_TEXT_BYTES}
 use Rattle.check_core.specs.Forms.{◌>>=◌}
 use Rattle.check_core.specs.Gathered.{whole_of}
 use Rattle.check_core.specs.Reading.{readings_of}
@@ -33,10 +33,10 @@ use Rattle.check_core.specs.Finding.{after_lines, lines_at, broken_by, finding, 
 -- Lines that are read as a reply
 
 -- if `came` is `k` whole lines, and any bytes follow it, the reply in the first `k` lines is the reply that is read from `came`
-pub read_first : {k : ℕ} {came : List ℕ} {text : Gathered MOST_TEXT_BYTES} → HasGathered k came text → (more : List ℕ) → reply_in k (came ++ more) ≡ text_read came
+pub read_first : {k : ℕ} {came : List ℕ} {text : Gathered MAX_TEXT_BYTES} → HasGathered k came text → (more : List ℕ) → reply_in k (came ++ more) ≡ text_read came
 read_first come more = ap (λ (found : Option (List ℕ × List ℕ)). found >>= (λ parts. text_read parts.0)) (stand_first come more)
 
-pub read_there : {k : ℕ} {came : List ℕ} {text : Gathered MOST_TEXT_BYTES} (event : Event) (w : Known) → HasGathered k came text → k ≡ suc (more_lines event w)
+pub read_there : {k : ℕ} {came : List ℕ} {text : Gathered MAX_TEXT_BYTES} (event : Event) (w : Known) → HasGathered k came text → k ≡ suc (more_lines event w)
     → (more : List ℕ) → reply_in (suc (more_lines event w)) (came ++ more) ≡ text_read came
 read_there {came = came} event w come count more = ap (λ n. reply_in n (came ++ more)) (sym count) ∙ read_first come more
 
@@ -65,7 +65,7 @@ pub no_reply_judged : (event : Event) (bytes : List ℕ) (w : Known) (promise : 
 no_reply_judged event bytes w promise none is = by_reply event bytes w None none ∙ ap (λ (p : Promise). Err p) (sym is)
 
 -- if the gathered bytes are within the limit, `text_read` reads them as the reply that `reply_of_text` reads
-pub read_so : (came bytes : List ℕ) (found : Option Reply) → whole_of MOST_TEXT_BYTES came ≡ Some bytes → reply_of_text bytes ≡ found → text_read came ≡ found
+pub read_so : (came bytes : List ℕ) (found : Option Reply) → whole_of MAX_TEXT_BYTES came ≡ Some bytes → reply_of_text bytes ≡ found → text_read came ≡ found
 read_so came bytes found whole is = ap (λ text. text >>= reply_of_text) whole ∙ is
 
 pub as_answer : (bytes : List ℕ) (reply : Reply) → answer_of bytes ≡ Some reply → reply_of_text bytes ≡ Some reply

@@ -24,7 +24,7 @@ use Rattle.promise_kept.specs.Written.{text_of_replies}
 use Rattle.check_core.specs.declared.finding.Breach.{Breach}
 use Rattle.check_core.specs.declared.finding.Finding.{Finding}
 use Rattle.check_core.specs.declared.finding.Finding.TheVariants.{Kept, Broken}
-use Rattle.check_core.specs.declared.shown.TheConstants.{MOST_TEXT_BYTES}
+use Rattle.check_core.specs.declared.shown.TheConstants.{MAX_TEXT_BYTES}
 use Rattle.check_core.specs.Forms.{◌>>=◌}
 use Rattle.check_core.specs.Finding.{line_at, lines_at, after_lines, text_read, reply_in, more_lines, lines_to, broken_by, refusal_read, verdict_at, fault_reply, finding}
 use Rattle.check_core.specs.Laws.{KeptIsAllowed, HasNoReply, IsWrong, BrokenIsNotAllowed}
@@ -89,7 +89,7 @@ record IsStep (reading : Line) (bytes : List ℕ) (w after : Known) : Type 0 whe
 
 read_text : (text : List ℕ) (reply : Reply) → text_read text ≡ Some reply → text_of reply ≡ text
 read_text text reply is =
-    elim (nat_lt MOST_TEXT_BYTES (length text)) as (λ b. ((if b then None else Some text) >>= reply_of_text) ≡ Some reply → text_of reply ≡ text) [
+    elim (nat_lt MAX_TEXT_BYTES (length text)) as (λ b. ((if b then None else Some text) >>= reply_of_text) ≡ Some reply → text_of reply ≡ text) [
       | true ↦ λ none. absurd cc
       | false ↦ λ found. reply_takes text reply found
     ] is
@@ -246,7 +246,7 @@ reads_again event reply w after bytes rest fits is allowed =
     let text = text_of reply in
     let lines : lines_at (suc (more_lines event w)) bytes ≡ Some (text, rest) =
     (λ i. lines_at (sym (as_many_lines event reply w after allowed) i) (is i)) ∙ text_first reply rest in
-    let short : nat_lt MOST_TEXT_BYTES (length text) ≡ false = le-ltb MOST_TEXT_BYTES (length text) (text_fits reply fits) in
+    let short : nat_lt MAX_TEXT_BYTES (length text) ≡ false = le-ltb MAX_TEXT_BYTES (length text) (text_fits reply fits) in
     ap (λ found. found >>= (λ parts. text_read parts.0)) lines
     ∙ ap (λ longer. (if longer then None else Some text) >>= reply_of_text) short ∙ reply_again text reply fits refl
 

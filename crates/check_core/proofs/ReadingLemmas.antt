@@ -17,7 +17,7 @@ use Rattle.words_core.specs.Grammar.{reading_of}
 use Rattle.streams.specs.Lines.{IsOneLine}
 use Rattle.streams.proofs.MoveLemmas.{consumes_nothing, consumes_more}
 use Rattle.check_core.specs.declared.gathered.Gathered.{Gathered}
-use Rattle.check_core.specs.declared.shown.TheConstants.{MOST_TEXT_BYTES}
+use Rattle.check_core.specs.declared.shown.TheConstants.{MAX_TEXT_BYTES}
 use Rattle.check_core.specs.Checking.{HasGathered}
 use Rattle.check_core.specs.Finding.{line_at, lines_at}
 use Rattle.check_core.specs.Forms.{◌>>=◌}
@@ -80,13 +80,13 @@ part_at_err (Ok ended) part new h = absurd cc
 part_at_err (Err e) part new h = tt
 
 -- adding nothing changes nothing, and two additions are one
-pub added_nothing : (text : Gathered MOST_TEXT_BYTES) → HasAdded MOST_TEXT_BYTES [] text text
-added_nothing text front gathers = subst (λ xs. Gathers MOST_TEXT_BYTES xs text) (sym (append-nil front)) gathers
+pub added_nothing : (text : Gathered MAX_TEXT_BYTES) → HasAdded MAX_TEXT_BYTES [] text text
+added_nothing text front gathers = subst (λ xs. Gathers MAX_TEXT_BYTES xs text) (sym (append-nil front)) gathers
 
-pub added_more : (a b c : Gathered MOST_TEXT_BYTES) (xs ys : List ℕ) → HasAdded MOST_TEXT_BYTES xs a b → HasAdded MOST_TEXT_BYTES ys b c
-    → HasAdded MOST_TEXT_BYTES (xs ++ ys) a c
+pub added_more : (a b c : Gathered MAX_TEXT_BYTES) (xs ys : List ℕ) → HasAdded MAX_TEXT_BYTES xs a b → HasAdded MAX_TEXT_BYTES ys b c
+    → HasAdded MAX_TEXT_BYTES (xs ++ ys) a c
 added_more a b c xs ys first later front gathers =
-    subst (λ zs. Gathers MOST_TEXT_BYTES zs c) (append_assoc front xs ys) (later (front ++ xs) (first front gathers))
+    subst (λ zs. Gathers MAX_TEXT_BYTES zs c) (append_assoc front xs ys) (later (front ++ xs) (first front gathers))
 
 -- if the LF is at the index `at`, the first `at + 1` bytes are the bytes before it and the LF
 pub with_feed : (bytes rest : List ℕ) (at : ℕ) → at < length bytes → bytes ≡ (take at bytes ++ 10 ∷ []) ++ rest
@@ -242,15 +242,15 @@ lines_more j (suc k) front bytes found first is =
     (ap (λ f. Some (front ++ f.0, f.1)) (same_Some (before.0 ++ last.0, last.1) found end)))
 
 -- the gathered lines are the first lines, whatever follows
-pub stand_first : {k : ℕ} {came : List ℕ} {text : Gathered MOST_TEXT_BYTES} → HasGathered k came text → (more : List ℕ) → lines_at k (came ++ more) ≡ Some (came, more)
+pub stand_first : {k : ℕ} {came : List ℕ} {text : Gathered MAX_TEXT_BYTES} → HasGathered k came text → (more : List ℕ) → lines_at k (came ++ more) ≡ Some (came, more)
 stand_first {k = k} {came = came} come more = lines_behind k came more (came, []) come.are
 
-pub none_come : {text : Gathered MOST_TEXT_BYTES} → Gathers MOST_TEXT_BYTES [] text → HasGathered 0 [] text
+pub none_come : {text : Gathered MAX_TEXT_BYTES} → Gathers MAX_TEXT_BYTES [] text → HasGathered 0 [] text
 none_come gathers = record { are = refl; gathers = gathers }
 
 -- after one more whole line is gathered, `k + 1` lines have come
-pub come_more : {k : ℕ} {came : List ℕ} {old new : Gathered MOST_TEXT_BYTES} (part line : List ℕ) → HasGathered k came old
-    → IsOneLine line → part ≡ line ++ 10 ∷ [] → ((front : List ℕ) → Gathers MOST_TEXT_BYTES front old → Gathers MOST_TEXT_BYTES (front ++ part) new)
+pub come_more : {k : ℕ} {came : List ℕ} {old new : Gathered MAX_TEXT_BYTES} (part line : List ℕ) → HasGathered k came old
+    → IsOneLine line → part ≡ line ++ 10 ∷ [] → ((front : List ℕ) → Gathers MAX_TEXT_BYTES front old → Gathers MAX_TEXT_BYTES (front ++ part) new)
     → HasGathered (suc k) (came ++ part) new
 come_more {came = came} part line come one is add =
     let last : line_at part ≡ Some (part, []) =
@@ -262,7 +262,7 @@ pub none_later : (j k n : ℕ) (bytes : List ℕ) → j + k ≡ n → lines_at k
 none_later zero k n bytes sum none = let e : n ≡ k = omega arith in ap (λ m. lines_at m bytes) e ∙ none
 none_later (suc j) k n bytes sum none = none_later j (suc k) n bytes (omega (arith, sum)) (rw none refl)
 
-pub none_more : {k : ℕ} {came : List ℕ} {text : Gathered MOST_TEXT_BYTES} (n : ℕ) (part : List ℕ) → HasGathered k came text → IsOneLine part → k < n
+pub none_more : {k : ℕ} {came : List ℕ} {text : Gathered MAX_TEXT_BYTES} (n : ℕ) (part : List ℕ) → HasGathered k came text → IsOneLine part → k < n
     → lines_at n (came ++ part) ≡ None
 none_more {k = k} {came = came} n part come one more =
     none_later (n - suc k) (suc k) n (came ++ part) (omega (arith, more)) (rw (stand_first come part, no_line part one) refl)

@@ -1,4 +1,4 @@
--- If bytes begin with the text of a reply, their first lines are the lines of this reply. The text has at most `MOST_TEXT_BYTES`
+-- If bytes begin with the text of a reply, their first lines are the lines of this reply. The text has at most `MAX_TEXT_BYTES`
 -- bytes.
 use Rattle.std.proofs.Common.{◌≡◌, ℕ, zero, suc, ◌+◌, ◌*◌, ◌/◌, ◌%◌, ◌≤◌, Bool, true, false, cond, not, List, [], ◌∷◌, ◌++◌, length, get_or, drop, Option, Some, None, refl, sym, ap, ◌∙◌, arith, append_assoc, append-nil, length-append}
 use Rattle.std.specs.Prelude.{codes, decimal, ◌==◌, nat_le, if◌then◌else◌, count_by, is_none}
@@ -25,7 +25,7 @@ use Rattle.words_core.specs.Texts.{number_of_refusal, name_of_refusal, name_of_f
 use Rattle.world_core.proofs.ReplyLines.{AreTexts, addressee_is_text, body_text}
 use Rattle.check_core.specs.Finding.{lines_at}
 use Rattle.check_core.specs.Ranges.{AddresseeFits, BodyFits, ReportFits, Fits}
-use Rattle.check_core.specs.declared.shown.TheConstants.{MOST_TEXT_BYTES}
+use Rattle.check_core.specs.declared.shown.TheConstants.{MAX_TEXT_BYTES}
 use Rattle.check_core.proofs.FormLoop.{marks, first_mark}
 use Rattle.check_core.proofs.FormLemmas.{form_text}
 use Rattle.check_core.proofs.SaidLemmas.{spelled, IsAnswer}
@@ -159,7 +159,7 @@ owner_fits : (owner : Option Owner) → length (owner_said owner) ≤ 142
 owner_fits None = line_fits (codes "free\n") [] 142 refl
 owner_fits (Some owner) = line_fits (codes "tenant # slot #\n") (owner.tenant ∷ owner.slot ∷ []) 142 refl
 
-report_fits : (front : List ℕ) (report : figures.Report) → length front ≤ 7 → ReportFits report → length (with_end (body_texts front (Report report))) ≤ MOST_TEXT_BYTES
+report_fits : (front : List ℕ) (report : figures.Report) → length front ≤ 7 → ReportFits report → length (with_end (body_texts front (Report report))) ≤ MAX_TEXT_BYTES
 report_fits front report short fits =
     let orders = shown order_line front 0 report.orders.items in
     let caches = shown cache_line front 0 report.caches.items in
@@ -184,7 +184,7 @@ report_fits front report short fits =
       fits.few_caches,
     )
 
-pool_fits : (front : List ℕ) (owners : List (Option Owner)) → length front ≤ 7 → length owners ≤ 256 → length (front ++ pool_lines front owners) ≤ MOST_TEXT_BYTES
+pool_fits : (front : List ℕ) (owners : List (Option Owner)) → length front ≤ 7 → length owners ≤ 256 → length (front ++ pool_lines front owners) ≤ MAX_TEXT_BYTES
 pool_fits front owners short few =
     let counts = form_text (codes "pool free # of #\n") (count_by is_none owners ∷ length owners ∷ []) in
     let row_fits : (superblock : ℕ) (owner : Option Owner) → length front + length (owner_line superblock owner) ≤ 230 = λ superblock owner.
@@ -199,11 +199,11 @@ pool_fits front owners short few =
       rows_fit owner_line front 230 row_fits 0 owners,
     )
 
-answer_fits : (who : Addressee) (said : Body) → AddresseeFits who → IsAnswer said → length (text_of (record { addressee = who; body = said })) ≤ MOST_TEXT_BYTES
+answer_fits : (who : Addressee) (said : Body) → AddresseeFits who → IsAnswer said → length (text_of (record { addressee = who; body = said })) ≤ MAX_TEXT_BYTES
 answer_fits who said who_fits answers =
     omega (arith, ap length (answer_text (record { addressee = who; body = said }) answers), length-append (addressee_text who) (spelled said), front_fits who who_fits, said_fits said answers)
 
-body_fits : (who : Addressee) (body : Body) → AddresseeFits who → BodyFits body → length (text_of (record { addressee = who; body = body })) ≤ MOST_TEXT_BYTES
+body_fits : (who : Addressee) (body : Body) → AddresseeFits who → BodyFits body → length (text_of (record { addressee = who; body = body })) ≤ MAX_TEXT_BYTES
 body_fits who (Owners owners) who_fits fits =
     let front = addressee_text who in
     omega (arith, ap length (pool_text front owners.items), pool_fits front owners.items (front_fits who who_fits) fits.1)
@@ -211,5 +211,5 @@ body_fits who (Report report) who_fits fits = report_fits (addressee_text who) r
 body_fits who (Bytes bytes) who_fits fits = answer_fits who (Bytes bytes) who_fits fits.1
 body_fits who said who_fits fits = answer_fits who said who_fits tt
 
-pub text_fits : (reply : Reply) → Fits reply → length (text_of reply) ≤ MOST_TEXT_BYTES
+pub text_fits : (reply : Reply) → Fits reply → length (text_of reply) ≤ MAX_TEXT_BYTES
 text_fits reply fits = body_fits reply.addressee reply.body fits.0 fits.1

@@ -14,15 +14,15 @@ use Rattle.check_core.specs.declared.finding.Finding.{Finding}
 use Rattle.check_core.specs.declared.finding.Unchecked.{Unchecked}
 use Rattle.check_core.specs.declared.gathered.Gathered.{Gathered}
 use Rattle.check_core.specs.declared.shown.Shown.{Shown}
-use Rattle.check_core.specs.declared.shown.TheConstants.{MOST_PART_BYTES, MOST_TEXT_BYTES}
+use Rattle.check_core.specs.declared.shown.TheConstants.{MAX_PART_BYTES, MAX_TEXT_BYTES}
 use Rattle.check_core.specs.Finding.{after_lines, finding_of, lines_at, lines_to, more_lines, reply_in, verdict_at}
 use Rattle.check_core.specs.Gathered.{Gathers}
 use Rattle.check_core.specs.Reading.{HasEnded, MayFollow, Source, readings_of}
 
 -- the bytes `came` were gathered, and they are exactly `lines` whole lines
-pub record HasGathered (lines : ℕ) (came : List ℕ) (text : Gathered MOST_TEXT_BYTES) : Type 0 where
+pub record HasGathered (lines : ℕ) (came : List ℕ) (text : Gathered MAX_TEXT_BYTES) : Type 0 where
   pub are : lines_at lines came ≡ Some (came, [])
-  pub gathers : Gathers MOST_TEXT_BYTES came text
+  pub gathers : Gathers MAX_TEXT_BYTES came text
 
 -- The verdict on the reply to a line with this reading, if `part` is what was read of the replies. The verdict does not depend on
 -- the bytes after `part`. If the reply is allowed, its lines are `part`, the verdict is their number, and the machine shows what
@@ -76,8 +76,8 @@ pub record IsBreachAt (w now : Known) (breach : Breach) (asked told line reply :
 
 -- `asked` was read as a line of the trace, and `told` as its reply; both are shown as far as the buffers hold them
 pub record HasRead (asked told : List ℕ) (shown : Shown) : Type 0 where
-  pub line : Gathers MOST_PART_BYTES asked shown.line
-  pub reply : Gathers MOST_TEXT_BYTES told shown.reply
+  pub line : Gathers MAX_PART_BYTES asked shown.line
+  pub reply : Gathers MAX_TEXT_BYTES told shown.reply
 
 -- if the finding is a breach, its line and its reply are shown, and the property `Also` holds of this line, of this reply, and of
 -- what is known after the earlier lines and their replies

@@ -12,7 +12,7 @@ use Rattle.words_core.specs.declared.event.Event.{Event}
 use Rattle.words_core.specs.declared.event.LineFault.{LineFault}
 use Rattle.words_core.specs.declared.reply.Refusal.{Refusal}
 use Rattle.words_core.specs.declared.reply.Reply.{Reply}
-use Rattle.model_core.specs.declared.limits.TheConstants.{MOST_ORDER}
+use Rattle.model_core.specs.declared.limits.TheConstants.{MAX_ORDER}
 use Rattle.model_core.specs.Blocks.{Block, block}
 use Rattle.model_core.specs.Operations.{overlaps}
 use Rattle.promise_core.specs.declared.promise.Promise.{Promise}
@@ -21,7 +21,7 @@ use Rattle.promise_core.specs.State.{Known}
 use Rattle.promise_core.specs.Promises.{allowed}
 use Rattle.check_core.specs.Tables.{reply_of_text}
 use Rattle.check_core.specs.declared.finding.Finding.{Finding}
-use Rattle.check_core.specs.declared.shown.TheConstants.{MOST_TEXT_BYTES}
+use Rattle.check_core.specs.declared.shown.TheConstants.{MAX_TEXT_BYTES}
 use Rattle.check_core.specs.Forms.{◌>>=◌}
 use Rattle.check_core.specs.Gathered.{whole_of}
 use Rattle.check_core.specs.Reading.{readings_of}
@@ -45,7 +45,7 @@ after_lines k bytes = option_map_or (λ found. found.1) (lines_at k bytes) []
 
 -- the reply with this text; a reply has at most 257 lines of at most 256 bytes each
 abbrev pub text_read : List ℕ → Option Reply
-text_read text = whole_of MOST_TEXT_BYTES text >>= reply_of_text
+text_read text = whole_of MAX_TEXT_BYTES text >>= reply_of_text
 
 -- the reply that the first `k` lines form
 abbrev pub reply_in : ℕ → List ℕ → Option Reply
@@ -143,7 +143,7 @@ finding_of w trace replies = finding 0 0 (readings_of trace) replies w
 
 -- the tenant's first live page block that shares a frame with the page block that the reply allocates, if there is one
 abbrev pub page_in_way : Known → Event → Body → Option Block
-page_in_way w (Event.Tenant t (Command.Alloc k)) (Body.Frame f) = if nat_le k MOST_ORDER
+page_in_way w (Event.Tenant t (Command.Alloc k)) (Body.Frame f) = if nat_le k MAX_ORDER
     then option_map_or (λ s. find (overlaps (block f k)) s.has.pages) (slice_get w.states t) None else None
 page_in_way w (Event.Tenant t (Command.Alloc k)) body = None
 page_in_way w (Event.Tenant t (Command.Free f)) body = None

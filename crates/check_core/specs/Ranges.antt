@@ -8,7 +8,7 @@ use Rattle.words_core.specs.declared.reply.Addressee.{Addressee}
 use Rattle.words_core.specs.declared.reply.Body.{Body}
 use Rattle.words_core.specs.declared.reply.Reply.{Reply}
 use Rattle.words_core.specs.declared.report.Report.{Report}
-use Rattle.model_core.specs.declared.limits.TheConstants.{MOST_BYTES}
+use Rattle.model_core.specs.declared.limits.TheConstants.{MAX_BYTES}
 use Rattle.words_core.specs.declared.reply.TheConstants.{OWNERS}
 use Rattle.words_core.specs.declared.report.TheConstants.{ORDERS, CACHES}
 
@@ -45,7 +45,7 @@ BodyFits (Body.Moved tenant slot superblock) = (tenant < 2 ^ 8) × (slot < 2 ^ 1
 BodyFits (Body.Owners owners) = AllByRecursion OwnerFits owners.items × (length owners.items ≤ OWNERS)
 BodyFits (Body.Frame frame) = frame < 2 ^ 32
 BodyFits (Body.Freed order) = order < 2 ^ 8
-BodyFits (Body.Bytes bytes) = AllByRecursion (λ b. b < 2 ^ 8) bytes.items × (length bytes.items ≤ MOST_BYTES)
+BodyFits (Body.Bytes bytes) = AllByRecursion (λ b. b < 2 ^ 8) bytes.items × (length bytes.items ≤ MAX_BYTES)
 BodyFits (Body.Written count) = count < 2 ^ 32
 BodyFits (Body.Cache cache chunk order objects colours) =
     (cache < 2 ^ 8) × (chunk < 2 ^ 32) × (order < 2 ^ 8) × (objects < 2 ^ 32) × (colours < 2 ^ 32)

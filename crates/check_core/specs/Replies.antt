@@ -8,7 +8,7 @@ use Rattle.words_core.specs.declared.reply.Body.{Body}
 use Rattle.words_core.specs.declared.event.LineFault.{LineFault}
 use Rattle.words_core.specs.declared.reply.Refusal.{Refusal}
 use Rattle.words_core.specs.declared.reply.Reply.{Reply}
-use Rattle.model_core.specs.declared.limits.TheConstants.{MOST_BYTES}
+use Rattle.model_core.specs.declared.limits.TheConstants.{MAX_BYTES}
 use Rattle.words_core.specs.Texts.{number_of_refusal, name_of_refusal, name_of_fault}
 use Rattle.words_core.specs.declared.reply.TheConstants.{REFUSALS}
 use Rattle.check_core.specs.Forms.{◌>>=◌, form_at}
@@ -71,7 +71,7 @@ bytes_again word (Ok bytes) = if bytes_eq (encode_lower bytes) word then Some by
 bytes_again word (Err e) = None
 
 unfoldable pub bytes_of : List ℕ → Option (List ℕ)
-bytes_of word = if nat_le (length word) (2 * MOST_BYTES) then bytes_again word (decode_of word) else None
+bytes_of word = if nat_le (length word) (2 * MAX_BYTES) then bytes_again word (decode_of word) else None
 
 unfoldable pub bytes_at : List ℕ → Option (Body × List ℕ)
 bytes_at text = do

@@ -13,7 +13,7 @@ use Rattle.check_core.specs.Forms.{◌>>=◌}
 use Rattle.check_core.specs.Gathered.{whole_of}
 use Rattle.check_core.specs.Reading.{without_line_feed}
 use Rattle.check_core.specs.Replies.{answer_of}
-use Rattle.check_core.specs.declared.shown.TheConstants.{MOST_TEXT_BYTES}
+use Rattle.check_core.specs.declared.shown.TheConstants.{MAX_TEXT_BYTES}
 use Rattle.check_core.specs.declared.taken.TakenFrame.{TakenFrame}
 
 -- the frame is the first one that both blocks share
@@ -38,7 +38,7 @@ event_read (Err fault) = None
 abbrev pub answer_read : (asked told : List ℕ) → Option (Event × Reply)
 answer_read asked told =
     event_read (reading_of (without_line_feed asked)) >>= (λ event.
-    (whole_of MOST_TEXT_BYTES told >>= answer_of) >>= (λ reply. Some (event, reply)))
+    (whole_of MAX_TEXT_BYTES told >>= answer_of) >>= (λ reply. Some (event, reply)))
 
 -- if the line and the reply were read as an event and a reply of one line, and `w` is what is known before the reply, the live
 -- page block in the way is noted; otherwise the note is unchanged

@@ -10,14 +10,14 @@ ghost use Rattle.check_core.specs.Replies.{addressee_at, tenant_at, admin_at, no
 
 use crate::form::{behind_word, number_between};
 use crate::said::said_at;
-use model_core::limits::MOST_BYTES;
+use model_core::limits::MAX_BYTES;
 use words_core::{Addressee, Answer};
 
 /// Reads `text` as a whole reply of one line, with its line feed. Returns the addressee and the answer. If the answer is the
 /// bytes of a read, they are stored in `buffer`. Returns `None` if `text` is not a reply of one line.
 pub fn read_answer<'a>(
     text: &'a [u8],
-    buffer: &'a mut [u8; MOST_BYTES],
+    buffer: &'a mut [u8; MAX_BYTES],
 ) -> Option<(Addressee, Answer<'a>)>
     // The returned reply has this text.
     ensures found { IfSome result (λ found. text_of (reply_to found.0 found.1) ≡ text.now) }
@@ -32,10 +32,7 @@ pub fn read_answer<'a>(
 
 #[tactic(auto, unfolding(crate::specs::Replies::answer_of))]
 #[inline(always)]
-fn answer_of<'a>(
-    text: &'a [u8],
-    buffer: &'a mut [u8; MOST_BYTES],
-) -> Option<(Addressee, Answer<'a>)>
+fn answer_of<'a>(text: &'a [u8], buffer: &'a mut [u8; MAX_BYTES]) -> Option<(Addressee, Answer<'a>)>
     ensures { Gives (λ found. reply_to found.0 found.1) result (answer_of text.now) }
 {
     let (addressee, rest) = addressee_at(text)?;

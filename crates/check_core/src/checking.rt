@@ -12,7 +12,7 @@ use crate::finding::{Breach, Finding, Unchecked};
 use crate::gathered::Gathered;
 use crate::lines::next_reading;
 use crate::reader::LineReader;
-use crate::shown::{MOST_TEXT_BYTES, Shown};
+use crate::shown::{MAX_TEXT_BYTES, Shown};
 use crate::verdicts::judge_line;
 use judge::KnownMachine;
 use promise_core::promise::Promise;
@@ -81,12 +81,12 @@ fn broken(line: u128, replies: u128, promise: Promise) -> Finding
 /// Reads one more line of the replies. Returns true if there is none.
 fn has_ended<R: Feed>(
     replies: &mut LineReader<R>,
-    text: &mut Gathered<MOST_TEXT_BYTES>,
+    text: &mut Gathered<MAX_TEXT_BYTES>,
 ) -> Result<bool, Unchecked>
     requires fine { replies.old.failed ≡ false }
     ensures none { (part : List ℕ) × HasGiven replies.old replies.new part
         × IfOk result (λ ended. (ended ≡ (length part == 0)) × (ended ≡ true → HasEnded replies.new))
-        × Gathers MOST_TEXT_BYTES part text.new }
+        × Gathers MAX_TEXT_BYTES part text.new }
     ensures end { IsEndedBy result false replies.new.failed ⊥ }
 {
     text.clear();

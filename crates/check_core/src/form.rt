@@ -7,14 +7,14 @@ ghost use Rattle.check_core.specs.Forms.{Gives, plain_number, number_at, letter_
 use arrayvec::ArrayVec;
 
 /// The number of decimal digits of the largest `u32`, `2^32 - 1`.
-const MOST_DIGITS: usize = 10;
+const MAX_DIGITS: usize = 10;
 
 /// Returns the number that a word spells in decimal. Returns `None` if the word is not a number, has leading zeros, or spells a
 /// number of `2^32` or more.
 fn plain_number(word: &[u8]) -> Option<u32>
     ensures { result ≡ plain_number word.now }
 {
-    if word.is_empty() || word.len() > MOST_DIGITS || word.len() > 1 && word[0] == b'0' {
+    if word.is_empty() || word.len() > MAX_DIGITS || word.len() > 1 && word[0] == b'0' {
         return None;
     }
     let mut value = 0u64;

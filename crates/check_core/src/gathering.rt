@@ -10,13 +10,13 @@ ghost use Rattle.check_core.specs.Reading.{HasEnded, HasGiven};
 use crate::finding::Unchecked;
 use crate::gathered::Gathered;
 use crate::reader::LineReader;
-use crate::shown::MOST_TEXT_BYTES;
+use crate::shown::MAX_TEXT_BYTES;
 use streams::{Feed, Stopped};
 
 /// Returns whether the gathered bytes are exactly `due`.
-pub fn is_text(text: &Gathered<MOST_TEXT_BYTES>, due: &[u8]) -> bool
-    requires { length due.now ≤ MOST_TEXT_BYTES }
-    ensures { (came : List ℕ) → Gathers MOST_TEXT_BYTES came text.now → result ≡ bytes_eq came due.now }
+pub fn is_text(text: &Gathered<MAX_TEXT_BYTES>, due: &[u8]) -> bool
+    requires { length due.now ≤ MAX_TEXT_BYTES }
+    ensures { (came : List ℕ) → Gathers MAX_TEXT_BYTES came text.now → result ≡ bytes_eq came due.now }
 {
     match text.whole() {
         Some(told) => *told == *due,
@@ -29,13 +29,13 @@ pub fn is_text(text: &Gathered<MOST_TEXT_BYTES>, due: &[u8]) -> bool
 pub fn gather<F: Feed>(
     replies: &mut LineReader<F>,
     lines: u128,
-    text: &mut Gathered<MOST_TEXT_BYTES>,
+    text: &mut Gathered<MAX_TEXT_BYTES>,
 ) -> Result<bool, Unchecked>
     requires fine { replies.old.failed ≡ false }
     ensures come { (part : List ℕ) × HasGiven replies.old replies.new part
         × ((k n : ℕ) (came : List ℕ) → k + lines ≡ n → HasGathered k came text.old → IfOk result (λ all. MatchBool all
         (HasGathered n (came ++ part) text.new) (HasEnded replies.new × (lines_at n (came ++ part) ≡ None))))
-        × HasAdded MOST_TEXT_BYTES part text.old text.new }
+        × HasAdded MAX_TEXT_BYTES part text.old text.new }
     ensures room { result ≡ Ok true → replies.new.room + lines ≤ replies.old.room }
     ensures end { IsEndedBy result false replies.new.failed ⊥ }
 {

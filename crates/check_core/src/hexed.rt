@@ -5,16 +5,16 @@ ghost use Rattle.hex.specs.Hex.{encode_lower, lower_digits};
 ghost use Rattle.check_core.specs.Forms.{Gives};
 ghost use Rattle.check_core.specs.Replies.{bytes_of};
 
-use model_core::limits::MOST_BYTES;
+use model_core::limits::MAX_BYTES;
 
 /// Decodes a word of lower-case hex into `buffer`, and returns the decoded bytes. Returns `None` if the word spells more than 64
 /// bytes, or is not made of pairs of lower-case hex digits.
 #[tactic(auto, unfolding(crate::specs::Replies::bytes_of))]
-pub fn bytes_of<'a>(word: &[u8], buffer: &'a mut [u8; MOST_BYTES]) -> Option<&'a [u8]>
+pub fn bytes_of<'a>(word: &[u8], buffer: &'a mut [u8; MAX_BYTES]) -> Option<&'a [u8]>
     ensures value { Gives (λ bytes. bytes.now) result (bytes_of word.now) }
-    ensures few { IfSome result (λ bytes. length bytes.now ≤ MOST_BYTES) }
+    ensures few { IfSome result (λ bytes. length bytes.now ≤ MAX_BYTES) }
 {
-    if word.len() > 2 * MOST_BYTES {
+    if word.len() > 2 * MAX_BYTES {
         return None;
     }
     let mut count = 0;

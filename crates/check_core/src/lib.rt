@@ -28,6 +28,6 @@ pub use checking::check;
 pub use finding::{Breach, Finding, Unchecked};
 pub use gathered::Gathered;
 pub use reader::LineReader;
-pub use shown::{MOST_PART_BYTES, MOST_TEXT_BYTES, Shown};
+pub use shown::{MAX_PART_BYTES, MAX_TEXT_BYTES, Shown};
 pub use table::read_table;
 pub use taken::{TakenFrame, taken_frame};

@@ -9,7 +9,7 @@ ghost use Rattle.check_core.specs.Reading.{HasGiven, IsNextReading, without_line
 use crate::finding::Unchecked;
 use crate::gathered::Gathered;
 use crate::reader::LineReader;
-use crate::shown::MOST_PART_BYTES;
+use crate::shown::MAX_PART_BYTES;
 use streams::Feed;
 use words_core::{Event, LineFault, read_line};
 
@@ -17,11 +17,11 @@ use words_core::{Event, LineFault, read_line};
 /// line's fault; a blank line or a comment has neither. Fails with `Unchecked::Trace` if the trace cannot be read.
 pub fn next_reading<F: Feed>(
     trace: &mut LineReader<F>,
-    line: &mut Gathered<MOST_PART_BYTES>,
+    line: &mut Gathered<MAX_PART_BYTES>,
 ) -> Result<Option<Result<Option<Event>, LineFault>>, Unchecked>
     requires fine { trace.old.failed ≡ false }
     ensures reading { (part : List ℕ) × HasGiven trace.old trace.new part
-        × IfOk result (λ reading. IsNextReading reading part trace.new) × Gathers MOST_PART_BYTES part line.new }
+        × IfOk result (λ reading. IsNextReading reading part trace.new) × Gathers MAX_PART_BYTES part line.new }
     ensures less { IfOk result (λ reading. IfSome reading (λ _. trace.new.room < trace.old.room)) }
     ensures end { IsEndedBy result trace.new.failed false ⊥ }
 {
@@ -40,8 +40,8 @@ pub fn next_reading<F: Feed>(
 
 /// Returns the event of a line, or `None` if the line is blank or a comment. Fails with the line's fault if it has one. An LF at
 /// the end of the line is ignored.
-pub(crate) fn reading(line: &Gathered<MOST_PART_BYTES>) -> Result<Option<Event>, LineFault>
-    ensures { (part : List ℕ) → Gathers MOST_PART_BYTES part line.now → result ≡ reading_of (without_line_feed part) }
+pub(crate) fn reading(line: &Gathered<MAX_PART_BYTES>) -> Result<Option<Event>, LineFault>
+    ensures { (part : List ℕ) → Gathers MAX_PART_BYTES part line.now → result ≡ reading_of (without_line_feed part) }
 {
     match line.whole() {
         None => Err(LineFault::Long),

@@ -6,7 +6,7 @@ ghost use Rattle.check_core.specs.Reading.{HasGiven, IsNextReading, IsPartAtOk};
 
 use crate::gathered::Gathered;
 use crate::short::event_of;
-use model_core::limits::MOST_BYTES;
+use model_core::limits::MAX_BYTES;
 use quick_core::read_request;
 use std::marker::Model;
 use streams::{Feed, Stopped, line_end};
@@ -106,7 +106,7 @@ impl<F: Feed> LineReader<F> {
         ensures failed { self.new.failed ≡ self.old.failed }
         ensures none { IfNone result ((self.new ≡ self.old) × (into.new ≡ into.old)) }
     {
-        let mut buffer = [0; MOST_BYTES];
+        let mut buffer = [0; MAX_BYTES];
         let held = &self.piece[self.start..self.end];
         let line = read_request(held, &mut buffer)?;
         into.add(&held[..line.len]);

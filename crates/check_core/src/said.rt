@@ -7,7 +7,7 @@ ghost use Rattle.check_core.specs.Replies.{frame_at, freed_at, written_at, cache
 
 use crate::form::{behind_word, form_at, number_between};
 use crate::hexed::bytes_of;
-use model_core::limits::MOST_BYTES;
+use model_core::limits::MAX_BYTES;
 use words_core::{Answer, LineFault, REFUSALS, Refusal};
 
 /// Returns the answer at the front of the text, and the text that follows it. The bytes in an answer to a `read` are stored in
@@ -15,7 +15,7 @@ use words_core::{Answer, LineFault, REFUSALS, Refusal};
 #[tactic(auto, unfolding(crate::specs::Replies::said_at))]
 pub fn said_at<'a>(
     text: &'a [u8],
-    buffer: &'a mut [u8; MOST_BYTES],
+    buffer: &'a mut [u8; MAX_BYTES],
 ) -> Option<(Answer<'a>, &'a [u8])>
     ensures { Gives (λ found. (body_of_answer found.0, found.1.now)) result (said_at text.now) }
 {
@@ -159,7 +159,7 @@ fn line_len(text: &[u8]) -> usize
 }
 
 #[tactic(auto, unfolding(crate::specs::Replies::bytes_at))]
-fn bytes_at<'a>(text: &'a [u8], buffer: &'a mut [u8; MOST_BYTES]) -> Option<(Answer<'a>, &'a [u8])>
+fn bytes_at<'a>(text: &'a [u8], buffer: &'a mut [u8; MAX_BYTES]) -> Option<(Answer<'a>, &'a [u8])>
     ensures { Gives (λ found. (body_of_answer found.0, found.1.now)) result (bytes_at text.now) }
 {
     let rest = behind_word(b"bytes ", text)?;

@@ -8,19 +8,19 @@ use crate::gathered::Gathered;
 use crate::lines::reading;
 use crate::taken::{TakenFrame, taken_frame};
 use judge::KnownMachine;
-use model_core::limits::MOST_BYTES;
+use model_core::limits::MAX_BYTES;
 
 /// The largest number of bytes that a line of a trace may have: 255, plus a carriage return and a line feed.
-pub const MOST_PART_BYTES: usize = 257;
+pub const MAX_PART_BYTES: usize = 257;
 
 /// The largest number of bytes in a reply: 257 lines of 256 bytes.
-pub const MOST_TEXT_BYTES: usize = 65_792;
+pub const MAX_TEXT_BYTES: usize = 65_792;
 
 /// The last line that was read, and the lines that were read as its reply.
 #[derive(Debug, Drop)]
 pub struct Shown {
-    pub line: Gathered<MOST_PART_BYTES>,
-    pub reply: Gathered<MOST_TEXT_BYTES>,
+    pub line: Gathered<MAX_PART_BYTES>,
+    pub reply: Gathered<MAX_TEXT_BYTES>,
     /// The live page block that overlaps the page block of the reply, and the first frame that both share. `None` until
     /// [`Shown::look_for_taken`] finds them.
     pub taken: Option<TakenFrame>,
@@ -33,8 +33,8 @@ impl Shown {
 
     /// Returns a value with no line and no reply.
     pub fn new() -> Self
-        ensures line { Gathers MOST_PART_BYTES [] result.line }
-        ensures reply { Gathers MOST_TEXT_BYTES [] result.reply }
+        ensures line { Gathers MAX_PART_BYTES [] result.line }
+        ensures reply { Gathers MAX_TEXT_BYTES [] result.reply }
         ensures taken { result.taken ≡ None }
     {
         Shown {
@@ -50,8 +50,8 @@ impl Shown {
     pub fn look_for_taken(&mut self, machine: &KnownMachine)
         ensures line { self.new.line ≡ self.old.line }
         ensures reply { self.new.reply ≡ self.old.reply }
-        ensures taken { (asked told : List ℕ) (w : Known) → Gathers MOST_PART_BYTES asked self.old.line
-            → Gathers MOST_TEXT_BYTES told self.old.reply → ShowsKnown machine.now w
+        ensures taken { (asked told : List ℕ) (w : Known) → Gathers MAX_PART_BYTES asked self.old.line
+            → Gathers MAX_TEXT_BYTES told self.old.reply → ShowsKnown machine.now w
             → IsNoted asked told w self.old.taken self.new.taken }
     {
         let Ok(Some(event)) = reading(&self.line) else {
@@ -60,7 +60,7 @@ impl Shown {
         let Some(text) = self.reply.whole() else {
             return;
         };
-        let mut buffer = [0; MOST_BYTES];
+        let mut buffer = [0; MAX_BYTES];
         if let Some((_, answer)) = read_answer(text, &mut buffer) {
             self.taken = taken_frame(machine, &event, &answer);
         }

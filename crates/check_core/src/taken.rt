@@ -13,7 +13,7 @@ ghost use Rattle.check_core.specs.Taken.{IsFirstShared};
 
 use judge::KnownMachine;
 use judge_core::FrameBlock;
-use model_core::limits::MOST_ORDER;
+use model_core::limits::MAX_ORDER;
 use words_core::{Answer, Command, Event};
 
 /// A frame of a reply's page block that is already in a live page block of the tenant.
@@ -36,7 +36,7 @@ pub fn taken_frame(machine: &KnownMachine, event: &Event, answer: &Answer<'_>) -
 {
     match (event, answer) {
         (Event::Tenant(tenant, Command::Alloc { order }), Answer::Frame(frame)) => {
-            if *order > u32::from(MOST_ORDER) {
+            if *order > u32::from(MAX_ORDER) {
                 return None;
             }
             let page = machine.page_over(*tenant, &FrameBlock::new(*frame, *order as u8))?;

@@ -16,10 +16,10 @@ use crate::finding::Unchecked;
 use crate::gathered::Gathered;
 use crate::gathering::{gather, is_text};
 use crate::reader::LineReader;
-use crate::shown::MOST_TEXT_BYTES;
+use crate::shown::MAX_TEXT_BYTES;
 use crate::table::read_table;
 use judge::{KnownMachine, Verdict};
-use model_core::limits::MOST_BYTES;
+use model_core::limits::MAX_BYTES;
 use promise_core::promise::Promise;
 use streams::Feed;
 use words_core::{
@@ -35,12 +35,12 @@ pub(crate) fn judge_line<R: Feed>(
     machine: &mut KnownMachine,
     reading: &Result<Option<Event>, LineFault>,
     replies: &mut LineReader<R>,
-    text: &mut Gathered<MOST_TEXT_BYTES>,
+    text: &mut Gathered<MAX_TEXT_BYTES>,
 ) -> Result<LineVerdict, Unchecked>
     requires fine { replies.old.failed ≡ false }
     ensures judged { (part : List ℕ) × HasGiven replies.old replies.new part × ((w : Known) → ShowsKnown machine.old w
         → IfOk result (λ verdict. IsLineVerdict verdict reading.now part w machine.new replies.new))
-        × Gathers MOST_TEXT_BYTES part text.new }
+        × Gathers MAX_TEXT_BYTES part text.new }
     ensures room { IfOk result (λ verdict. IfOk verdict (λ lines. replies.new.room + lines ≤ replies.old.room)) }
     ensures end { IsEndedBy result false replies.new.failed ((part : List ℕ) × HasGiven replies.old replies.new part
         × ((w : Known) (more : List ℕ) → ShowsKnown machine.old w → AddsAt reading.now (part ++ more) w)) }
@@ -60,13 +60,13 @@ pub(crate) fn judge_line<R: Feed>(
 fn judge_fault<R: Feed>(
     fault: LineFault,
     replies: &mut LineReader<R>,
-    text: &mut Gathered<MOST_TEXT_BYTES>,
+    text: &mut Gathered<MAX_TEXT_BYTES>,
 ) -> Result<LineVerdict, Unchecked>
     requires fine { replies.old.failed ≡ false }
     ensures judged { (part : List ℕ) × HasGiven replies.old replies.new part
-        × ((w : Known) (kept : SeenMachine) → ShowsKnown kept w → Gathers MOST_TEXT_BYTES [] text.old
+        × ((w : Known) (kept : SeenMachine) → ShowsKnown kept w → Gathers MAX_TEXT_BYTES [] text.old
         → IfOk result (λ verdict. IsLineVerdict verdict (Err fault) part w kept replies.new))
-        × HasAdded MOST_TEXT_BYTES part text.old text.new }
+        × HasAdded MAX_TEXT_BYTES part text.old text.new }
     ensures room { IfOk result (λ verdict. IfOk verdict (λ lines. replies.new.room + lines ≤ replies.old.room)) }
     ensures end { IsEndedBy result false replies.new.failed ⊥ }
 {
@@ -87,16 +87,16 @@ fn judge_event<R: Feed>(
     machine: &mut KnownMachine,
     event: &Event,
     replies: &mut LineReader<R>,
-    text: &mut Gathered<MOST_TEXT_BYTES>,
+    text: &mut Gathered<MAX_TEXT_BYTES>,
 ) -> Result<LineVerdict, Unchecked>
     requires fine { replies.old.failed ≡ false }
     ensures judged { (part : List ℕ) × HasGiven replies.old replies.new part
-        × ((w : Known) → ShowsKnown machine.old w → Gathers MOST_TEXT_BYTES [] text.old
+        × ((w : Known) → ShowsKnown machine.old w → Gathers MAX_TEXT_BYTES [] text.old
         → IfOk result (λ verdict. IsLineVerdict verdict (Ok (Some event.now)) part w machine.new replies.new))
-        × HasAdded MOST_TEXT_BYTES part text.old text.new }
+        × HasAdded MAX_TEXT_BYTES part text.old text.new }
     ensures room { IfOk result (λ verdict. IfOk verdict (λ lines. replies.new.room + lines ≤ replies.old.room)) }
     ensures end { IsEndedBy result false replies.new.failed ((part : List ℕ) × HasGiven replies.old replies.new part
-        × ((w : Known) (more : List ℕ) → ShowsKnown machine.old w → Gathers MOST_TEXT_BYTES [] text.old
+        × ((w : Known) (more : List ℕ) → ShowsKnown machine.old w → Gathers MAX_TEXT_BYTES [] text.old
         → AddsAt (Ok (Some event.now)) (part ++ more) w)) }
 {
     if !gather(replies, 1, text)? {
@@ -117,14 +117,14 @@ fn judge_lines<R: Feed>(
     event: &Event,
     more: u128,
     replies: &mut LineReader<R>,
-    text: &mut Gathered<MOST_TEXT_BYTES>,
+    text: &mut Gathered<MAX_TEXT_BYTES>,
 ) -> Result<LineVerdict, Unchecked>
     requires fine { replies.old.failed ≡ false }
     requires some { more + 1 < 2 ^ 128 }
     ensures judged { (part : List ℕ) × HasGiven replies.old replies.new part
         × ((w : Known) (came : List ℕ) → ShowsKnown machine.old w → more_lines event.now w ≡ more → HasGathered 1 came text.old
         → IfOk result (λ verdict. IsLineVerdict verdict (Ok (Some event.now)) (came ++ part) w machine.new replies.new))
-        × HasAdded MOST_TEXT_BYTES part text.old text.new }
+        × HasAdded MAX_TEXT_BYTES part text.old text.new }
     ensures room { IfOk result (λ verdict. IfOk verdict (λ lines. replies.new.room + lines ≤ replies.old.room + 1)) }
     ensures end { IsEndedBy result false replies.new.failed ((part : List ℕ) × HasGiven replies.old replies.new part
         × ((w : Known) (came later : List ℕ) → ShowsKnown machine.old w → more_lines event.now w ≡ more
@@ -145,7 +145,7 @@ fn judge_gathered(
     event: &Event,
     lines: u128,
     refused: Option<(Addressee, Refusal)>,
-    text: &Gathered<MOST_TEXT_BYTES>,
+    text: &Gathered<MAX_TEXT_BYTES>,
 ) -> Result<LineVerdict, Unchecked>
     ensures judged { (w : Known) (came : List ℕ) (replies : Source) → ShowsKnown machine.old w
         → lines ≡ lines_to (Ok (Some event.now)) w → HasGathered lines came text.now
@@ -168,17 +168,17 @@ fn judge_gathered(
 fn judge_text(
     machine: &mut KnownMachine,
     event: &Event,
-    text: &Gathered<MOST_TEXT_BYTES>,
+    text: &Gathered<MAX_TEXT_BYTES>,
 ) -> Result<Option<Verdict>, Unchecked>
-    ensures judged { (w : Known) (came : List ℕ) → ShowsKnown machine.old w → Gathers MOST_TEXT_BYTES came text.now
+    ensures judged { (w : Known) (came : List ℕ) → ShowsKnown machine.old w → Gathers MAX_TEXT_BYTES came text.now
         → IfOk result (λ verdict. IsTextVerdict verdict event.now (text_read came) w machine.new) }
-    ensures end { IsEndedBy result false false ((came : List ℕ) → Gathers MOST_TEXT_BYTES came text.now
+    ensures end { IsEndedBy result false false ((came : List ℕ) → Gathers MAX_TEXT_BYTES came text.now
         → (reply : Reply) × (text_read came ≡ Some reply) × IsAllowedAddition event.now reply machine.old) }
 {
     let Some(bytes) = text.whole() else {
         return Ok(None);
     };
-    let mut buffer = [0; MOST_BYTES];
+    let mut buffer = [0; MAX_BYTES];
     match read_answer(bytes, &mut buffer) {
         Some((addressee, answer)) => Ok(Some(machine.judge(event, addressee, &answer)?)),
         None => Ok(judge_table(machine, event, bytes)),
@@ -197,11 +197,11 @@ fn judge_table(machine: &mut KnownMachine, event: &Event, text: &[u8]) -> Option
 }
 
 /// Returns the refusal and its addressee if the gathered text is a refusal, and `None` otherwise.
-fn refusal_in(text: &Gathered<MOST_TEXT_BYTES>) -> Option<(Addressee, Refusal)>
-    ensures { (came : List ℕ) → Gathers MOST_TEXT_BYTES came text.now → result ≡ refusal_read (text_read came) }
+fn refusal_in(text: &Gathered<MAX_TEXT_BYTES>) -> Option<(Addressee, Refusal)>
+    ensures { (came : List ℕ) → Gathers MAX_TEXT_BYTES came text.now → result ≡ refusal_read (text_read came) }
 {
     let bytes = text.whole()?;
-    let mut buffer = [0; MOST_BYTES];
+    let mut buffer = [0; MAX_BYTES];
     let (addressee, answer) = read_answer(bytes, &mut buffer)?;
     match answer {
         Answer::Refused(refusal) => Some((addressee, refusal)),

@@ -3,7 +3,7 @@ use Rattle.std.specs.Prelude.{◌-◌, ◌^◌, ℕ, true, false, Some, pos, cod
 use Rattle.clap.specs.Words.{App, Rule, Text, new_app, new_rule, with_rule}
 use Rattle.clap.specs.declared.builder.action.ArgAction.TheVariants.{Set}
 use Rattle.clap.specs.declared.builder.value_parser.ValueParser.TheVariants.{Signed}
-use Rattle.model_core.specs.declared.limits.TheConstants.{LEAST_ORDER, MOST_ORDER, MOST_SUPERBLOCKS, MOST_TENANTS}
+use Rattle.model_core.specs.declared.limits.TheConstants.{MIN_ORDER, MAX_ORDER, MAX_SUPERBLOCKS, MAX_TENANTS}
 
 -- the required argument `--name NUMBER`, whose value is a number from `least` to `most`
 abbrev pub number_rule : Text → ℕ → ℕ → Rule
@@ -26,9 +26,9 @@ bare_command name = record (new_app name) { top = record (new_app name).top { no
 -- the command of a program with this name, whose arguments are the sizes of a machine
 abbrev pub sizes_command : Text → App
 sizes_command name = with_rule (with_rule (with_rule (bare_command name)
-    (number_rule (codes "order") LEAST_ORDER MOST_ORDER))
-    (number_rule (codes "superblocks") 1 MOST_SUPERBLOCKS))
-    (number_rule (codes "tenants") 1 MOST_TENANTS)
+    (number_rule (codes "order") MIN_ORDER MAX_ORDER))
+    (number_rule (codes "superblocks") 1 MAX_SUPERBLOCKS))
+    (number_rule (codes "tenants") 1 MAX_TENANTS)
 
 -- the command of a program whose arguments are the sizes of a machine and an optional `--only NUMBER`
 abbrev pub machine_command : Text → App

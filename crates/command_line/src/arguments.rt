@@ -10,7 +10,7 @@ ghost use Rattle.command_line.specs.Outcome.{IsParsedBy, IsRefusal};
 
 use crate::outcome::{Outcome, not_parsed};
 use clap::{Arg, ArgAction, ArgMatches, Command, value_parser};
-use model_core::limits::{LEAST_ORDER, MOST_ORDER, MOST_SUPERBLOCKS, MOST_TENANTS};
+use model_core::limits::{MAX_ORDER, MAX_SUPERBLOCKS, MAX_TENANTS, MIN_ORDER};
 use std::alloc::{AllocError, Global};
 
 /// The version that `--version` prints.
@@ -62,14 +62,14 @@ pub fn sizes_command<'a>(alloc: Global, program: Program<'a>) -> Result<Command<
             alloc,
             "order",
             "S",
-            u32::from(LEAST_ORDER),
-            u32::from(MOST_ORDER),
+            u32::from(MIN_ORDER),
+            u32::from(MAX_ORDER),
         )
         .help("A superblock has 2^S frames of 4096 bytes: 3 to 8"))?
-        .arg(number(alloc, "superblocks", "N", 1, u32::from(MOST_SUPERBLOCKS)).help(
+        .arg(number(alloc, "superblocks", "N", 1, u32::from(MAX_SUPERBLOCKS)).help(
             "Number of superblocks: 1 to 256",
         ))?
-        .arg(number(alloc, "tenants", "T", 1, u32::from(MOST_TENANTS)).help(
+        .arg(number(alloc, "tenants", "T", 1, u32::from(MAX_TENANTS)).help(
             "Number of tenants: 1 to 64",
         ))
 }

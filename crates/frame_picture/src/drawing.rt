@@ -15,7 +15,7 @@ use crate::owned::OwnSheets;
 use kernel_core::FrameKind;
 
 /// The largest number of rows of a band.
-pub const MOST_ROWS: usize = 256;
+pub const MAX_ROWS: usize = 256;
 
 /// The tone of a row.
 #[derive(Clone, Copy, Debug)]
@@ -42,7 +42,7 @@ pub fn is_tone(tone: Tone, cell: Tone) -> bool
 }
 
 /// Sets `cells[i]` to the tones of tenant `t`'s rows in `columns[i]`, for each index `i` that both slices have.
-pub fn set_cells(cells: &mut [[Tone; MOST_ROWS]], columns: &[Column], t: u8, grid: Grid)
+pub fn set_cells(cells: &mut [[Tone; MAX_ROWS]], columns: &[Column], t: u8, grid: Grid)
     ensures { (at row : ℕ) (column : Column) (rows : List Tone) → slice_get columns.now at ≡ Some column → slice_get cells.new at ≡ Some rows
         → row < 256 → row < grid.rows → IsRowTone column t grid row (slice_index_or rows row not_held) }
 {
@@ -55,11 +55,11 @@ pub fn set_cells(cells: &mut [[Tone; MOST_ROWS]], columns: &[Column], t: u8, gri
 }
 
 /// Stores the tones of tenant `t`'s rows in a column.
-fn set_rows(rows: &mut [Tone; MOST_ROWS], column: &Column, own: &OwnSheets, t: u8, grid: Grid)
+fn set_rows(rows: &mut [Tone; MAX_ROWS], column: &Column, own: &OwnSheets, t: u8, grid: Grid)
     requires { IsOwn t column.now.sheets.items own.now }
     ensures { (row : ℕ) → row < 256 → row < grid.rows → IsRowTone column.now t grid row (slice_index_or rows.new row not_held) }
 {
-    for row in 0..MOST_ROWS {
+    for row in 0..MAX_ROWS {
         rows[row] = row_tone(column, own, t, grid, row as u32);
     }
 }

@@ -1,7 +1,7 @@
 //! The states of a machine over the lines of a trace.
 
 ghost use Rattle.std.specs.Prelude.{◌≡◌, ℕ, ◌+◌, ◌*◌, ◌/◌, ◌%◌, ◌^◌, ◌<◌, ◌≤◌, ◌⊎◌, min, IfOk, Option, Some, length, replicate, slice_get, slice_index, slice_set, vec_len};
-ghost use Rattle.model_core.specs.declared.limits.TheConstants.{MOST_ORDER, MOST_TENANTS};
+ghost use Rattle.model_core.specs.declared.limits.TheConstants.{MAX_ORDER, MAX_TENANTS};
 
 use crate::showing::{show_figures, show_refused, show_sheets};
 use kernel_core::{FrameKind, Kernel};
@@ -10,7 +10,7 @@ use std::alloc::{AllocError, Global};
 
 /// The largest number of columns. With this number, the kinds of the frames, one byte each, need as many bytes as the machine's
 /// RAM.
-pub const MOST_COLUMNS: u32 = 4096;
+pub const MAX_COLUMNS: u32 = 4096;
 
 /// The state of a superblock after some line of a trace.
 #[derive(Debug, Drop)]
@@ -68,8 +68,8 @@ pub struct History {
     width: u32,
     /// The number of lines that were run.
     lines: u32,
-    ghost small: { order ≤ MOST_ORDER },
-    ghost few: { tenants ≤ MOST_TENANTS },
+    ghost small: { order ≤ MAX_ORDER },
+    ghost few: { tenants ≤ MAX_TENANTS },
     ghost some: { 0 < width },
     ghost within: { kept ≤ vec_len columns },
 }

@@ -5,16 +5,16 @@ ghost use Rattle.frame_picture.specs.Rows.{cells_in};
 ghost use Rattle.frame_picture.specs.Owned.{IsOwn};
 
 use crate::history::Sheet;
-use model_core::limits::MOST_SUPERBLOCKS;
+use model_core::limits::MAX_SUPERBLOCKS;
 
 /// The largest number of sheets that are listed for a tenant. On a machine within its limits, a tenant has no more.
-pub const MOST_LISTED: usize = MOST_SUPERBLOCKS as usize;
+pub const MAX_LISTED: usize = MAX_SUPERBLOCKS as usize;
 
 /// The indices of a tenant's sheets in a column, found once for all rows.
 #[derive(Debug, Drop)]
 pub struct OwnSheets {
     /// The indices of the tenant's first sheets, in ascending order. Only the first `len` entries are used.
-    pub listed: [u16; MOST_LISTED],
+    pub listed: [u16; MAX_LISTED],
     pub len: usize,
     /// The index of the first sheet that was not searched. On a machine within its limits, neither this sheet nor a later one is
     /// the tenant's.
@@ -25,7 +25,7 @@ impl OwnSheets {
     /// Returns an empty list.
     pub fn new() -> OwnSheets {
         OwnSheets {
-            listed: [0; MOST_LISTED],
+            listed: [0; MAX_LISTED],
             len: 0,
             rest: 0,
         }
@@ -38,7 +38,7 @@ impl OwnSheets {
         let most = sheets.len().min(1 << 16);
         // These counts are local, since fields of `self` would be written back after each sheet.
         let (mut len, mut rest) = (0, 0);
-        'sheets: while rest < most && len < MOST_LISTED {
+        'sheets: while rest < most && len < MAX_LISTED {
             if is_of(&sheets[rest], t) {
                 self.listed[len] = rest as u16;
                 len += 1;

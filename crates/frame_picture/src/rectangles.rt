@@ -4,7 +4,7 @@ ghost use Rattle.std.specs.Prelude.{◌≡◌, ◌≢◌, ℕ, ◌+◌, ◌-◌,
 ghost use Rattle.std.specs.List.{prefix_len};
 ghost use Rattle.frame_picture.specs.Rectangles.{run_at, run_in, IsRectangle, GoesOn};
 
-use crate::drawing::{MOST_ROWS, Tone, is_tone};
+use crate::drawing::{MAX_ROWS, Tone, is_tone};
 
 /// A rectangle of cells of one tone.
 #[derive(Clone, Copy, Debug, PartialEq, Eq)]
@@ -22,7 +22,7 @@ pub struct Rectangle {
 /// Returns the rectangle of a tone that begins at a row and has `end - 1` as its last column, if there is one. All its columns
 /// have the same run of rows there, and the columns beside it do not. Only the first `rows` rows of a column are shown.
 pub fn rectangle_at(
-    columns: &[[Tone; MOST_ROWS]],
+    columns: &[[Tone; MAX_ROWS]],
     tone: Tone,
     rows: usize,
     row: usize,
@@ -30,7 +30,7 @@ pub fn rectangle_at(
 ) -> Option<Rectangle>
     requires some { 0 < end }
     requires within { end ≤ length columns.now }
-    requires few { rows ≤ MOST_ROWS }
+    requires few { rows ≤ MAX_ROWS }
     requires shown { row < rows }
     ensures row { IfSome result (λ r. r.row ≡ row) }
     ensures rectangle { MatchOption result (GoesOn (run_in columns.now tone rows row) (length columns.now) end)
@@ -54,15 +54,9 @@ pub fn rectangle_at(
 
 /// Returns the number of rows in the run of the tone that begins at this row in a column, or 0 if none begins there. Only the
 /// first `rows` rows of a column are shown.
-fn run_in(
-    columns: &[[Tone; MOST_ROWS]],
-    tone: Tone,
-    rows: usize,
-    row: usize,
-    column: usize,
-) -> usize
+fn run_in(columns: &[[Tone; MAX_ROWS]], tone: Tone, rows: usize, row: usize, column: usize) -> usize
     requires within { column < length columns.now }
-    requires few { rows ≤ MOST_ROWS }
+    requires few { rows ≤ MAX_ROWS }
     requires shown { row < rows }
     ensures { result ≡ run_in columns.now tone rows row column }
 {

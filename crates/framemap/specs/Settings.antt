@@ -3,7 +3,7 @@ use Rattle.std.specs.Prelude.{◌≡◌, ◌⊎◌, ℕ, true, false, List, [], 
 use Rattle.std.specs.String.{string_bytes}
 use Rattle.clap.specs.Words.{App, Kinds, Rule, Text, fault_of, first_of, matches_of, new_rule, one_of, takes, with_rule}
 use Rattle.clap.specs.declared.builder.action.ArgAction.TheVariants.{SetTrue}
-use Rattle.frame_picture.specs.declared.history.TheConstants.{MOST_COLUMNS}
+use Rattle.frame_picture.specs.declared.history.TheConstants.{MAX_COLUMNS}
 use Rattle.command_line.specs.Arguments.{machine_command, number_rule, positional_rule}
 use Rattle.command_line.specs.MachineOptions.{AsksMachine, IsNoMachine, MayWrite}
 use Rattle.command_line.specs.Outcome.{IsRefusedBy}
@@ -13,11 +13,11 @@ use Rattle.framemap.specs.declared.settings.Settings.{Settings}
 use Rattle.framemap.specs.declared.settings.TheConstants.{DEFAULT_COLUMNS}
 
 -- `columns` is the number in the text, or the default if the text has no number. It is limited to the range from 1 to
--- MOST_COLUMNS.
+-- MAX_COLUMNS.
 pub record AreColumns (text : Option Text) (columns : ℕ) : Type 0 where
   pub written : Option ℕ
   pub read : MayWrite text written
-  pub within : columns ≡ max 1 (min (unwrap_or written DEFAULT_COLUMNS) MOST_COLUMNS)
+  pub within : columns ≡ max 1 (min (unwrap_or written DEFAULT_COLUMNS) MAX_COLUMNS)
 
 -- The settings are the values of the arguments. Both functions take the name of an argument: `read` returns the text of a number
 -- or a flag, and `whole` returns the path of FILE.
@@ -28,7 +28,7 @@ pub record AsksMap (read whole : Text → Option Text) (settings : Settings) : T
   pub file : option_map (λ path. string_bytes path) settings.file ≡ whole (codes "FILE")
 
 abbrev pub columns_rule : Rule
-columns_rule = record (number_rule (codes "columns") 1 MOST_COLUMNS) { required = false }
+columns_rule = record (number_rule (codes "columns") 1 MAX_COLUMNS) { required = false }
 
 abbrev pub figures_rule : Rule
 figures_rule = record (new_rule (codes "figures")) { long = Some (codes "figures"); action = Some SetTrue }

@@ -7,7 +7,7 @@ ghost use Rattle.framemap.specs.declared.settings.Settings.{Settings};
 
 use clap::{Arg, ArgAction, Command};
 use command_line::{MachineOptions, Outcome, Program, number, parse, path_of, positional};
-use frame_picture::history::MOST_COLUMNS;
+use frame_picture::history::MAX_COLUMNS;
 use std::alloc::{AllocError, Global};
 
 /// The largest number of columns of a picture, if the command line does not set it.
@@ -70,7 +70,7 @@ pub fn read_words<'a>(alloc: Global, words: &'a [&'a str]) -> Result<Settings, O
     let columns = matches.get_one::<u32>("columns").unwrap_or(DEFAULT_COLUMNS);
     Ok(Settings {
         machine: MachineOptions::found(alloc, &matches)?,
-        columns: columns.clamp(1, MOST_COLUMNS),
+        columns: columns.clamp(1, MAX_COLUMNS),
         figures: matches.get_flag("figures"),
         file: path_of(alloc, &matches, "FILE")?,
     })
@@ -82,7 +82,7 @@ fn command<'a>(alloc: Global) -> Result<Command<'a>, AllocError>
 {
     command_line::command(alloc, PROGRAM, ONLY)?
         .arg(
-            number(alloc, "columns", "C", 1, MOST_COLUMNS)
+            number(alloc, "columns", "C", 1, MAX_COLUMNS)
                 .help("Largest number of columns: 1 to 4096 [default: 600]")
                 .required(false),
         )?

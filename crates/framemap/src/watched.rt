@@ -7,7 +7,7 @@ ghost use Rattle.framemap.specs.Watching.{watches};
 
 use frame_picture::history::History;
 use kernel_core::Kernel;
-use model_core::limits::MOST_BYTES;
+use model_core::limits::MAX_BYTES;
 use quick_core::{CR_LF, LF, read_ended_request};
 use replay_core::{Drain, Sink, Stopped};
 use words_core::{Addressee, Answer, Event, LineFault, Refusal};
@@ -34,7 +34,7 @@ impl Watched {
         ensures left { self.new.events + length result.now ≤ self.old.events + length piece.now }
     {
         // One buffer for the bytes of a write, for all lines.
-        let mut buffer = [0; MOST_BYTES];
+        let mut buffer = [0; MAX_BYTES];
         let mut rest = piece;
         'lines: while let Some(line) = read_ended_request::<RETURNS>(rest, &mut buffer) {
             let len = line.len;

@@ -1,7 +1,7 @@
 //! Lines that the quick reader, `quick_core`, must read. The proofs say that each line that it reads is read correctly, but not
 //! that it reads these lines.
 
-use model_core::limits::MOST_BYTES;
+use model_core::limits::MAX_BYTES;
 use quick_core::{WINDOW, read_request};
 use std::process::Abort;
 use std::test::Fail;
@@ -47,14 +47,14 @@ fn reads_lines_of_a_load(rt: HostRuntime) -> Result<(), Fail> {
 }
 
 fn expect_read(rt: &impl Abort, line: &str) {
-    let mut buffer = [0; MOST_BYTES];
+    let mut buffer = [0; MAX_BYTES];
     let len = read_request(&window_of(line.as_bytes()), &mut buffer).map(|read| read.len);
     assert!(rt; len == Some(line.len() + 1), "{line}");
 }
 
 #[test]
 fn reads_writes(rt: HostRuntime) {
-    let mut buffer = [0; MOST_BYTES];
+    let mut buffer = [0; MAX_BYTES];
     let rest = b"3 write 4096 00ff10aB\n0 alloc 0\n0 alloc 0\n";
     let line = read_request(rest, &mut buffer).expect(&rt, "a write is read");
     assert!(rt; line.len == 22);

@@ -5,7 +5,7 @@ use Rattle.std.specs.Option.{option_map_or, option_eq}
 use Rattle.std.proofs.lemmas.Bool.{lt-ltb, le-ltb}
 use Rattle.arrayvec.specs.ArrayVec.{ArrayVec}
 use Rattle.model_core.specs.Blocks.{Block, block}
-use Rattle.model_core.specs.declared.limits.TheConstants.{MOST_BYTES}
+use Rattle.model_core.specs.declared.limits.TheConstants.{MAX_BYTES}
 use Rattle.words_core.specs.declared.event.Event.TheVariants as On
 use Rattle.words_core.specs.declared.event.AdminCommand.TheVariants as Do
 use Rattle.words_core.specs.declared.event.Command.TheVariants as Command
@@ -63,10 +63,10 @@ module _ (t number : ℕ) (w : Known) (x : Seen) (o : Option KnownCache) (is : k
 
 module _ (t place len : ℕ) (bytes : ArrayVec ℕ) (w : Known) (x : Seen) where
   pub read_if : (o : Option Holder) → holder_of x.has place len ≡ o → tenant_verdict (On.Tenant t (Command.Read place len)) (Say.Bytes bytes) w x
-      ≡ broken ((Promise.Refusals, is_none (first_due ((not (nat_le 1 len && nat_le len MOST_BYTES), Refusal.BadLength) ∷ (is_none o, Refusal.OutOfReach) ∷ [])))
+      ≡ broken ((Promise.Refusals, is_none (first_due ((not (nat_le 1 len && nat_le len MAX_BYTES), Refusal.BadLength) ∷ (is_none o, Refusal.OutOfReach) ∷ [])))
       ∷ (Promise.Bytes, length bytes.items == len && option_map_or (λ h. may_all_be x.has (left_at x.left) h place bytes.items) o false) ∷ [])
   unfolding due state_after
-  read_if o is = ap (λ p. broken ((Promise.Refusals, is_none (first_due ((not (nat_le 1 len && nat_le len MOST_BYTES), Refusal.BadLength) ∷ (is_none p, Refusal.OutOfReach) ∷ [])))
+  read_if o is = ap (λ p. broken ((Promise.Refusals, is_none (first_due ((not (nat_le 1 len && nat_le len MAX_BYTES), Refusal.BadLength) ∷ (is_none p, Refusal.OutOfReach) ∷ [])))
       ∷ (Promise.Bytes, length bytes.items == len && option_map_or (λ h. may_all_be x.has (left_at x.left) h place bytes.items) p false) ∷ [])) is
 
   pub written_if : (o : Option Holder) → holder_of x.has place (length bytes.items) ≡ o → tenant_verdict (On.Tenant t (Command.Write place bytes)) (Say.Written len) w x

@@ -8,7 +8,7 @@ use Rattle.model_core.specs.Elements.{IsIn}
 use Rattle.model_core.proofs.Lists.{find_in}
 use Rattle.model_core.specs.Blocks.{Block, block}
 use Rattle.model_core.specs.Machine.{in_block, put_rising}
-use Rattle.model_core.specs.declared.limits.TheConstants.{MOST_CACHES}
+use Rattle.model_core.specs.declared.limits.TheConstants.{MAX_CACHES}
 use Rattle.words_core.specs.declared.event.Event.TheVariants as On
 use Rattle.words_core.specs.declared.event.Command.TheVariants as Command
 use Rattle.words_core.specs.declared.report.Report.{Report}
@@ -142,24 +142,24 @@ given t number place w old h l kept has left = record {
   state = λ i. Some (record { has = sym has i; cells = sym left.cells i; may_have_empty = λ n. slice_index_or old.may_have_empty n false; told = None });
 }
 
--- no cache with a number of `MOST_CACHES` or above is in use
-in_use_below : (h : Holdings) (n : ℕ) → AreNumbered h → (nat_lt n MOST_CACHES && is_in_use (known_cache h n)) ≡ is_in_use (known_cache h n)
-in_use_below h n low = go (nat_lt n MOST_CACHES) refl (known_cache h n) refl
+-- no cache with a number of `MAX_CACHES` or above is in use
+in_use_below : (h : Holdings) (n : ℕ) → AreNumbered h → (nat_lt n MAX_CACHES && is_in_use (known_cache h n)) ≡ is_in_use (known_cache h n)
+in_use_below h n low = go (nat_lt n MAX_CACHES) refl (known_cache h n) refl
   where
-    go : (b : Bool) → nat_lt n MOST_CACHES ≡ b → (o : Option KnownCache) → known_cache h n ≡ o → (b && is_in_use o) ≡ is_in_use o
+    go : (b : Bool) → nat_lt n MAX_CACHES ≡ b → (o : Option KnownCache) → known_cache h n ≡ o → (b && is_in_use o) ≡ is_in_use o
     go true lt o e = refl
     go false ge None e = refl
     go false ge (Some c) e =
         let at : IsIn c h.caches × ((c.number == n) ≡ true) = find_in (λ y. y.number == n) c h.caches e in
         let is : c.number ≡ n = eqb-true c.number n at.1 in
         let lt = low c at.0 in
-        let beyond : MOST_CACHES ≤ n = ltb-false n MOST_CACHES ge in
+        let beyond : MAX_CACHES ≤ n = ltb-false n MAX_CACHES ge in
         absurd (omega (arith, is, lt, beyond))
 
 pub reaped : (t frames : ℕ) (w : Known) (old : Seen) (l : Left) (marks : List Bool) → AreNumbered old.has
     → tenant_verdict (On.Tenant t Command.Reap) (Say.Reaped frames) w old ≡ Ok tt
     → Becomes old.left (left_slots old.left) (without (λ place. is_object (is_in_no_slab old.has))) l
-    → ((n : ℕ) → slice_index_or marks n false ≡ (nat_lt n MOST_CACHES && is_in_use (known_cache old.has n)))
+    → ((n : ℕ) → slice_index_or marks n false ≡ (nat_lt n MAX_CACHES && is_in_use (known_cache old.has n)))
     → IsFollowed (On.Tenant t Command.Reap) (Say.Reaped frames) w old (record { has = old.has; left = l; may_have_empty = marks; told = None })
 unfolding state_after
 reaped t frames w old l marks low kept left may_have_empty = record {
@@ -178,18 +178,18 @@ pub reported : (t : ℕ) (r : Report) (w : Known) (old : Seen) → tenant_verdic
 unfolding state_after
 reported t r w old kept = record { kept = kept; order = refl; state = refl }
 
-pub number_low : (h : Holdings) (number : ℕ) (c : KnownCache) → AreNumbered h → known_cache h number ≡ Some c → number < MOST_CACHES
+pub number_low : (h : Holdings) (number : ℕ) (c : KnownCache) → AreNumbered h → known_cache h number ≡ Some c → number < MAX_CACHES
 number_low h number c low e =
     let at : IsIn c h.caches × ((c.number == number) ≡ true) = find_in (λ y. y.number == number) c h.caches e in
-    subst (λ n. n < MOST_CACHES) (eqb-true c.number number at.1) (low c at.0)
+    subst (λ n. n < MAX_CACHES) (eqb-true c.number number at.1) (low c at.0)
 
 pub all_marked : (h : Holdings) (marks : List Bool) → length marks ≡ 32 → ((k : ℕ) → k < 32 → slice_index_or marks k false ≡ is_in_use (known_cache h k))
-    → (n : ℕ) → slice_index_or marks n false ≡ (nat_lt n MOST_CACHES && is_in_use (known_cache h n))
-all_marked h marks len set n = go (nat_lt n MOST_CACHES) refl
+    → (n : ℕ) → slice_index_or marks n false ≡ (nat_lt n MAX_CACHES && is_in_use (known_cache h n))
+all_marked h marks len set n = go (nat_lt n MAX_CACHES) refl
   where
-    go : (b : Bool) → nat_lt n MOST_CACHES ≡ b → slice_index_or marks n false ≡ (b && is_in_use (known_cache h n))
-    go true lt = set n (ltb-true n MOST_CACHES lt)
-    go false ge = let beyond : MOST_CACHES ≤ n = ltb-false n MOST_CACHES ge in get_or_past marks n false (omega (arith, len, beyond))
+    go : (b : Bool) → nat_lt n MAX_CACHES ≡ b → slice_index_or marks n false ≡ (b && is_in_use (known_cache h n))
+    go true lt = set n (ltb-true n MAX_CACHES lt)
+    go false ge = let beyond : MAX_CACHES ≤ n = ltb-false n MAX_CACHES ge in get_or_past marks n false (omega (arith, len, beyond))
 
 pub all_pass : {A : Type 0} (xs : List A) → filter (λ x. true) xs ≡ xs
 all_pass [] = refl

@@ -1,6 +1,6 @@
 -- Before the first event, the stored machine shows the opening state of the definitions.
 use Rattle.std.proofs.Common.{◌≡◌, ℕ, zero, suc, List, [], ◌∷◌, ◌++◌, length, map, replicate, Some, None, slice_get, refl, ap, sym, subst, ◌∙◌}
-use Rattle.model_core.specs.declared.limits.TheConstants.{MOST_CACHES}
+use Rattle.model_core.specs.declared.limits.TheConstants.{MAX_CACHES}
 use Rattle.promise_core.specs.State.{opening_state, opening}
 use Rattle.judge.specs.Seen.{Seen, state_of, IsOpeningTenant}
 use Rattle.judge.specs.KnownMachine.{SeenMachine, ShowsKnown}
@@ -14,10 +14,10 @@ each_more P (x ∷ xs) z each new zero y at = each zero y at
 each_more P (x ∷ xs) z each new (suc k) y at = each_more P xs z (λ i v here. each (suc i) v here) new k y at
 
 pub opening_shown : (order superblocks tenants : ℕ) (x : SeenMachine) → x.order ≡ order → x.owners ≡ replicate superblocks None → length x.tenants ≡ tenants
-    → ((k : ℕ) (y : Seen) → slice_get x.tenants k ≡ Some y → IsOpeningTenant order y) → ShowsKnown x (opening MOST_CACHES order superblocks tenants)
+    → ((k : ℕ) (y : Seen) → slice_get x.tenants k ≡ Some y → IsOpeningTenant order y) → ShowsKnown x (opening MAX_CACHES order superblocks tenants)
 unfolding opening
 opening_shown order superblocks tenants x sized none many each i = record {
-  limit = MOST_CACHES;
+  limit = MAX_CACHES;
   order = sym sized i;
   owners = sym none i;
   states = (ap (λ n. replicate n opening_state) (sym many) ∙ all_opening x.tenants (λ k y at. (each k y at).state)) i;

@@ -5,7 +5,7 @@ use Rattle.std.specs.Option.{option_map_or}
 use Rattle.std.proofs.lemmas.Bool.{cases_eq}
 use Rattle.std.proofs.lemmas.List.{length-set, map-set, set-get_or}
 use Rattle.std.proofs.lemmas.Option.{get_or_from_slice_get, slice_get-map}
-use Rattle.model_core.specs.declared.limits.TheConstants.{MOST_CACHES}
+use Rattle.model_core.specs.declared.limits.TheConstants.{MAX_CACHES}
 use Rattle.model_core.specs.declared.owner.Owner.{Owner}
 use Rattle.words_core.specs.declared.event.Event.{Event}
 use Rattle.words_core.specs.declared.event.Event.TheVariants as On
@@ -146,7 +146,7 @@ module _ (event : Event) (reply : Reply) (x : SeenMachine) (t : ℕ) (y z : Seen
   is_after e = ap (λ k. known_after event reply.body (known_of x) (unwrap_or (state_after k event reply.body (state_of y)) (state_of y))) (sym order)
       ∙ (ap (λ o. known_after event reply.body (known_of x) (unwrap_or o (state_of y))) e
       ∙ (λ i. record {
-        limit = MOST_CACHES;
+        limit = MAX_CACHES;
         order = x.order;
         owners = owners_after event reply.body x.owners;
         states = (ap (λ o. option_map_or (λ u. slice_set (map state_of x.tenants) u (state_of z)) o (map state_of x.tenants)) name

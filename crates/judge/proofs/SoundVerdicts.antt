@@ -6,7 +6,7 @@ use Rattle.std.proofs.lemmas.Bool.{and_parts, ltb-true}
 use Rattle.std.specs.List.{AllByRecursion as Each}
 use Rattle.model_core.specs.Elements.{IsIn}
 use Rattle.model_core.proofs.Lists.{filter_in, map_in}
-use Rattle.model_core.specs.declared.limits.TheConstants.{MOST_CACHES, MOST_ORDER}
+use Rattle.model_core.specs.declared.limits.TheConstants.{MAX_CACHES, MAX_ORDER}
 use Rattle.words_core.specs.declared.event.Event.{Event}
 use Rattle.words_core.specs.declared.event.Event.TheVariants as On
 use Rattle.words_core.specs.declared.event.AdminCommand.TheVariants as Do
@@ -67,9 +67,9 @@ live_number false c live = refl
 live_numbered : (h : Holdings) (number : ℕ) (change : List ℕ → List ℕ) → AreNumbered h → AreNumbered (with_live_places number change h)
 live_numbered h number change low c i =
     let x : (y : KnownCache) × IsIn y h.caches × ((if y.number == number then record y { live = change y.live } else y) ≡ c) = map_in _ c h.caches i in
-    subst (λ n. n < MOST_CACHES) (sym (live_number (x.0.number == number) x.0 (change x.0.live)) ∙ ap (λ y. y.number) x.2) (low x.0 x.1)
+    subst (λ n. n < MAX_CACHES) (sym (live_number (x.0.number == number) x.0 (change x.0.live)) ∙ ap (λ y. y.number) x.2) (low x.0 x.1)
 
-number_step : (w : Known) (event : Event) (body : Body) (s s' : State) → state_after w.order event body s ≡ Some s' → w.limit ≡ MOST_CACHES
+number_step : (w : Known) (event : Event) (body : Body) (s s' : State) → state_after w.order event body s ≡ Some s' → w.limit ≡ MAX_CACHES
     → new_layout event body w s ≡ true → AreNumbered s.has → AreNumbered s'.has
 unfolding state_after opening_state
 number_step w event (Say.Refused r) s s' e limit l g = subst (λ y. AreNumbered y.has) (some_state e) g
@@ -79,7 +79,7 @@ number_step w (On.Tenant i (Command.Read begin len)) (Say.Bytes told) s s' e lim
 number_step w (On.Tenant i (Command.Write begin new)) (Say.Written count) s s' e limit l g = subst (λ y. AreNumbered y.has) (some_state e) g
 number_step w (On.Tenant i (Command.Cache size align pattern)) (Say.Cache number chunk q n colours) s s' e limit l g = subst (λ y. AreNumbered y.has) (some_state e)
     (λ d m. elim (in_put (λ x. x.number) new d s.has.caches m) [
-      | inl same ↦ subst (λ y. y.number < MOST_CACHES) same (subst (λ n. number < n) limit (ltb-true number w.limit (and_parts _ _ (and_parts _ _ l).0).0))
+      | inl same ↦ subst (λ y. y.number < MAX_CACHES) same (subst (λ n. number < n) limit (ltb-true number w.limit (and_parts _ _ (and_parts _ _ l).0).0))
       | inr old ↦ g d old
     ])
   where
@@ -110,7 +110,7 @@ sound_after event body w old new sound follows slots =
     let n = kept_all event body w old follows.kept in
     let v : Known = known_at old w in
     record {
-      sized = subst (λ k. k ≤ MOST_ORDER) (sym follows.order) sound.sized;
+      sized = subst (λ k. k ≤ MAX_ORDER) (sym follows.order) sound.sized;
       slots = slots;
       laid = subst (λ k. IsLaid k new.has) (sym follows.order)
           (step v event body (state_of old) (state_of new) follows.state n.refusals n.blocks n.objects n.layout sound.laid);

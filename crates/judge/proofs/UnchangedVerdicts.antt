@@ -6,7 +6,7 @@ use Rattle.std.specs.Result.{IsErrAnd}
 use Rattle.std.specs.Option.{option_map_or}
 use Rattle.model_core.specs.Layouts.{is_size, is_alignment}
 use Rattle.model_core.specs.Machine.{order_in}
-use Rattle.model_core.specs.declared.limits.TheConstants.{MOST_BYTES}
+use Rattle.model_core.specs.declared.limits.TheConstants.{MAX_BYTES}
 use Rattle.promise_core.specs.Bytes.{holder_of}
 use Rattle.promise_core.specs.Holdings.{known_cache}
 use Rattle.words_core.specs.declared.event.Event.{Event}
@@ -97,7 +97,7 @@ pub plain_due : (t : ℕ) (m : Command) (w : Known) (s : State) → IfSome (due 
 unfolding due
 plain_due t (Command.Alloc k) w s = first_plain ((nat_lt w.order k, Refusal.BadOrder) ∷ []) (refl, tt)
 plain_due t (Command.Free f) w s = first_plain ((is_none (order_in s.has.pages f), Refusal.NotABlock) ∷ []) (refl, tt)
-plain_due t (Command.Read place len) w s = first_plain ((not (nat_le 1 len && nat_le len MOST_BYTES), Refusal.BadLength)
+plain_due t (Command.Read place len) w s = first_plain ((not (nat_le 1 len && nat_le len MAX_BYTES), Refusal.BadLength)
     ∷ (is_none (holder_of s.has place len), Refusal.OutOfReach) ∷ []) (refl, (refl, tt))
 plain_due t (Command.Write place bytes) w s = first_plain ((is_none (holder_of s.has place (length bytes.items)), Refusal.OutOfReach) ∷ []) (refl, tt)
 plain_due t (Command.Cache size align pattern) w s = first_plain ((not (is_size size), Refusal.BadSize) ∷ (not (is_alignment align), Refusal.BadAlign)

@@ -8,7 +8,7 @@ use Rattle.words_core.specs.declared.reply.Body.{Body}
 use Rattle.words_core.specs.declared.event.Event.{Event}
 use Rattle.words_core.specs.declared.reply.Refusal.{Refusal}
 use Rattle.words_core.specs.declared.reply.Reply.{Reply}
-use Rattle.model_core.specs.declared.limits.TheConstants.{MOST_CACHES}
+use Rattle.model_core.specs.declared.limits.TheConstants.{MAX_CACHES}
 use Rattle.promise_core.specs.declared.promise.Promise.{Promise}
 use Rattle.words_core.specs.Requests.{body_of_answer}
 use Rattle.promise_core.specs.Promises.{allowed, is_one, kept}
@@ -46,9 +46,9 @@ abbrev pub failing : Result (Unit {0}) Promise → Result (Unit {0}) Failure
 failing (Ok _) = Ok tt
 failing (Err promise) = Err (Failure.Broken promise)
 
--- what is known of a machine, but with `MOST_CACHES` as the limit of caches, and with the order of this tenant's slots
+-- what is known of a machine, but with `MAX_CACHES` as the limit of caches, and with the order of this tenant's slots
 abbrev pub known_at : Seen → Known → Known
-known_at x w = record w { limit = MOST_CACHES; order = x.left.order }
+known_at x w = record w { limit = MAX_CACHES; order = x.left.order }
 
 -- the verdict on a reply with this body to a command about the tenant
 abbrev pub tenant_verdict : Event → Body → Known → Seen → Result (Unit {0}) Promise

@@ -1,7 +1,7 @@
 -- The state that the judge stores of a machine, its sizes, and what a verdict on a reply means.
 use Rattle.std.specs.Prelude.{◌≡◌, ℕ, ◌≤◌, List, Option, Some, Result, Ok, Err, length, map, slice_get}
 use Rattle.model_core.specs.declared.owner.Owner.{Owner}
-use Rattle.model_core.specs.declared.limits.TheConstants.{MOST_CACHES, MOST_ORDER, MOST_SUPERBLOCKS}
+use Rattle.model_core.specs.declared.limits.TheConstants.{MAX_CACHES, MAX_ORDER, MAX_SUPERBLOCKS}
 use Rattle.promise_core.specs.declared.promise.Promise.{Promise}
 use Rattle.promise_core.specs.State.{Known}
 use Rattle.judge.specs.Seen.{Seen, state_of}
@@ -13,7 +13,7 @@ pub record SeenMachine : Type 0 where
   pub tenants : List Seen
 
 abbrev pub known_of : SeenMachine → Known
-known_of x = record { limit = MOST_CACHES; order = x.order; owners = x.owners; states = map state_of x.tenants }
+known_of x = record { limit = MAX_CACHES; order = x.order; owners = x.owners; states = map state_of x.tenants }
 
 -- `w` is what is known of the machine `x`
 abbrev pub ShowsKnown : SeenMachine → Known → Type 0
@@ -26,8 +26,8 @@ IsVerdict (Err promise) allowed new = allowed ≡ Err promise
 
 -- the sizes are within the limits, and the slots of every tenant have the machine's order
 pub record FitsLimits (x : SeenMachine) : Type 0 where
-  pub small : x.order ≤ MOST_ORDER
-  pub few : length x.owners ≤ MOST_SUPERBLOCKS
+  pub small : x.order ≤ MAX_ORDER
+  pub few : length x.owners ≤ MAX_SUPERBLOCKS
   pub ordered : (t : ℕ) (y : Seen) → slice_get x.tenants t ≡ Some y → y.left.order ≡ x.order
 
 -- the sizes do not change

@@ -3,7 +3,7 @@ use Rattle.std.specs.Prelude.{◌≡◌, ℕ, ◌<◌, ◌≤◌, ◌==◌, Bool
 use Rattle.std.specs.List.{list_any}
 use Rattle.model_core.specs.Elements.{IsIn}
 use Rattle.words_core.specs.declared.report.Report.{Report}
-use Rattle.model_core.specs.declared.limits.TheConstants.{MOST_CACHES, MOST_ORDER}
+use Rattle.model_core.specs.declared.limits.TheConstants.{MAX_CACHES, MAX_ORDER}
 use Rattle.promise_core.specs.Lying.{IsLaid, AllGridded}
 use Rattle.promise_core.specs.Holdings.{KnownCache, Holdings, has_slot}
 use Rattle.promise_core.specs.State.{State, opening_state}
@@ -26,12 +26,12 @@ pub record IsOpeningTenant (order : ℕ) (x : Seen) : Type 0 where
   pub state : state_of x ≡ opening_state
 
 abbrev pub AreNumbered : Holdings → Type 0
-AreNumbered h = (c : KnownCache) → IsIn c h.caches → c.number < MOST_CACHES
+AreNumbered h = (c : KnownCache) → IsIn c h.caches → c.number < MAX_CACHES
 
 -- Shadow memory has exactly the held slots. Page blocks and slabs are in held slots and share no frame. In each slab, the live
 -- objects begin at multiples of the chunk from one aligned origin. The numbers of caches are below the limit.
 pub record LieInSlots (h : Holdings) (left : Left) : Type 0 where
-  pub sized : left.order ≤ MOST_ORDER
+  pub sized : left.order ≤ MAX_ORDER
   pub slots : (u : ℕ) → list_any (λ v. v == u) (left_slots left) ≡ has_slot h u
   pub laid : IsLaid left.order h
   pub gridded : AllGridded left.order h

@@ -13,7 +13,7 @@ use crate::tenant::Tenant;
 use crate::verdict::Failure;
 use arrayvec::ArrayVec;
 use judge_core::RangeHolder;
-use model_core::limits::MOST_BYTES;
+use model_core::limits::MAX_BYTES;
 use promise_core::promise::Promise;
 
 impl Tenant {
@@ -53,7 +53,7 @@ impl Tenant {
     pub(crate) fn write_bytes(
         &mut self,
         place: u32,
-        bytes: &ArrayVec<u8, MOST_BYTES>,
+        bytes: &ArrayVec<u8, MAX_BYTES>,
         count: u32,
     ) -> Result<(), Failure>
         ensures { (t : ℕ) (w : Known)
@@ -68,7 +68,7 @@ impl Tenant {
     fn holder_written(
         &self,
         place: u32,
-        bytes: &ArrayVec<u8, MOST_BYTES>,
+        bytes: &ArrayVec<u8, MAX_BYTES>,
         count: u32,
     ) -> Result<RangeHolder, Promise>
         ensures judged { (t : ℕ) (w : Known)
@@ -86,9 +86,9 @@ impl Tenant {
     }
 }
 
-/// Returns whether a read may request this many bytes, 1 to `MOST_BYTES`.
+/// Returns whether a read may request this many bytes, 1 to `MAX_BYTES`.
 pub(crate) fn is_length(len: u32) -> bool
-    ensures { result ≡ (nat_le 1 len && nat_le len MOST_BYTES) }
+    ensures { result ≡ (nat_le 1 len && nat_le len MAX_BYTES) }
 {
-    1 <= len && len as usize <= MOST_BYTES
+    1 <= len && len as usize <= MAX_BYTES
 }

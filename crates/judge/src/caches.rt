@@ -4,7 +4,7 @@
 ghost use Rattle.std.specs.Prelude.{◌≡◌, ℕ, ◌+◌, ◌*◌, ◌%◌, ◌^◌, ◌≤◌, ◌<◌, ◌==◌, ◌&&◌, nat_lt, None, true, false, filter, is_none, slice_index_or};
 ghost use Rattle.std.specs.List.{list_any};
 ghost use Rattle.std.specs.Option.{option_map_or};
-ghost use Rattle.model_core.specs.declared.limits.TheConstants.{MOST_CACHES};
+ghost use Rattle.model_core.specs.declared.limits.TheConstants.{MAX_CACHES};
 ghost use Rattle.model_core.specs.Layouts.{is_size, is_alignment};
 ghost use Rattle.arrayvec.specs.ArrayVec.{ArrayVec as Pattern};
 ghost use Rattle.words_core.specs.declared.event.Event.TheVariants as On;
@@ -22,7 +22,7 @@ use crate::tenant::Tenant;
 use crate::verdict::{Failure, Verdict, both, on_answer, on_still_answer};
 use arrayvec::ArrayVec;
 use judge_core::{HeldCache, KnownLayout, is_marked};
-use model_core::limits::{MOST_CACHES, MOST_PATTERN, MOST_SIZE};
+use model_core::limits::{MAX_CACHES, MAX_PATTERN, MAX_SIZE};
 use promise_core::promise::Promise;
 use words_core::Refusal;
 
@@ -32,7 +32,7 @@ impl Tenant {
         &mut self,
         number: u8,
         layout: KnownLayout,
-        pattern: &ArrayVec<u8, MOST_PATTERN>,
+        pattern: &ArrayVec<u8, MAX_PATTERN>,
     ) -> Result<(), Failure>
         ensures { (t : ℕ) (w : Known) → let l = layout in IsVerdictFor (On.Tenant t (Command.Cache l.size l.align pattern.now))
             (Say.Cache number l.chunk l.order l.count l.colours) w self.old self.new result }
@@ -61,9 +61,9 @@ impl Tenant {
 
     /// Returns whether the number is below the limit and no cache of the tenant has it.
     fn is_new_cache(&self, number: u8) -> bool
-        ensures { result ≡ (nat_lt number MOST_CACHES && is_none (known_cache self.now.has number)) }
+        ensures { result ≡ (nat_lt number MAX_CACHES && is_none (known_cache self.now.has number)) }
     {
-        number < MOST_CACHES && self.held.cache(number.into()).is_none()
+        number < MAX_CACHES && self.held.cache(number.into()).is_none()
     }
 
     /// Returns the refusal that must come in reply to a request for a cache, if any.
@@ -155,7 +155,7 @@ impl Tenant {
 fn is_size(size: u32) -> bool
     ensures { result ≡ is_size size }
 {
-    1 <= size && size <= MOST_SIZE
+    1 <= size && size <= MAX_SIZE
 }
 
 /// Returns whether objects may have this alignment.

@@ -2,7 +2,7 @@
 
 ghost use Rattle.std.specs.Prelude.{◌≡◌, ℕ, ◌+◌, ◌*◌, ◌^◌, ◌≤◌, ◌<◌, length, map, drop, slice_index, Some, IfSome};
 ghost use Rattle.model_core.specs.Reports.{greatest, split_share as share};
-ghost use Rattle.model_core.specs.declared.limits.TheConstants.{MOST_ORDER};
+ghost use Rattle.model_core.specs.declared.limits.TheConstants.{MAX_ORDER};
 ghost use Rattle.promise_core.specs.Promises.{frames_of_counts};
 
 use arrayvec::ArrayVec;
@@ -39,7 +39,7 @@ pub(crate) fn frames_of_counts(counts: &[u32]) -> u64
 
 /// Returns the number of frames in `count` blocks of an order.
 pub(crate) fn frames_in(count: u32, order: u8) -> u64
-    requires { order ≤ MOST_ORDER }
+    requires { order ≤ MAX_ORDER }
     ensures value { result ≡ count * 2 ^ order }
     ensures most { result ≤ 2 ^ 40 }
 {
@@ -84,7 +84,7 @@ pub(crate) fn greatest(counts: &[u32], end: u8) -> Option<u8>
 /// frames, and `top` is the greatest order of a free block. Returns 0 if `top` is `None`. Returns 1000 if `top` is an order but
 /// `free` is 0.
 pub(crate) fn split_share(free: u32, top: Option<u8>) -> u32
-    requires { IfSome top (λ k. k ≤ MOST_ORDER) }
+    requires { IfSome top (λ k. k ≤ MAX_ORDER) }
     ensures { result ≡ share free top }
 {
     let Some(order) = top else {

@@ -1,7 +1,7 @@
 //! What is known of a machine.
 
 ghost use Rattle.std.specs.Prelude.{◌≡◌, ◌≤◌, IfOk, None, find, length, option_map, replicate, slice_get};
-ghost use Rattle.model_core.specs.declared.limits.TheConstants.{MOST_CACHES, MOST_ORDER, MOST_SUPERBLOCKS};
+ghost use Rattle.model_core.specs.declared.limits.TheConstants.{MAX_CACHES, MAX_ORDER, MAX_SUPERBLOCKS};
 ghost use Rattle.model_core.specs.Operations.{overlaps};
 ghost use Rattle.std.specs.Option.{option_map_or};
 ghost use Rattle.promise_core.specs.State.{opening};
@@ -42,9 +42,9 @@ impl KnownMachine {
         superblocks: u16,
         tenants: u8,
     ) -> Result<KnownMachine, AllocError>
-        requires order { order ≤ MOST_ORDER }
-        requires superblocks { superblocks ≤ MOST_SUPERBLOCKS }
-        ensures { IfOk result (λ machine. ShowsKnown machine (opening MOST_CACHES order superblocks tenants)) }
+        requires order { order ≤ MAX_ORDER }
+        requires superblocks { superblocks ≤ MAX_SUPERBLOCKS }
+        ensures { IfOk result (λ machine. ShowsKnown machine (opening MAX_CACHES order superblocks tenants)) }
     {
         let owners = vec![in alloc; None; superblocks as usize]?;
         let mut all = Vec::new(alloc);
@@ -61,7 +61,7 @@ impl KnownMachine {
     /// Returns the order of a slot, which has `2^order` frames.
     pub fn order(&self) -> u8
         ensures value { result ≡ self.now.order }
-        ensures most { result ≤ MOST_ORDER }
+        ensures most { result ≤ MAX_ORDER }
     {
         self.order
     }
@@ -69,7 +69,7 @@ impl KnownMachine {
     /// Returns the number of superblocks.
     pub fn superblocks(&self) -> usize
         ensures value { result ≡ length self.now.owners }
-        ensures most { result ≤ MOST_SUPERBLOCKS }
+        ensures most { result ≤ MAX_SUPERBLOCKS }
     {
         self.owners.len()
     }

@@ -1,7 +1,7 @@
 //! Marks of the caches that may have an empty slab.
 
 ghost use Rattle.std.specs.Prelude.{◌≡◌, ◌<◌, ◌==◌, ◌&&◌, ◌||◌, ℕ, false, not, nat_lt, slice_index_or};
-ghost use Rattle.model_core.specs.declared.limits.TheConstants.{MOST_CACHES};
+ghost use Rattle.model_core.specs.declared.limits.TheConstants.{MAX_CACHES};
 ghost use Rattle.promise_core.specs.Holdings.{known_cache};
 ghost use Rattle.promise_core.specs.State.{is_in_use};
 
@@ -10,7 +10,7 @@ use words_core::CACHES;
 
 /// Sets the mark of the cache with this number.
 pub(crate) fn set_mark(marks: &mut [bool; CACHES], number: u32)
-    requires { number < MOST_CACHES }
+    requires { number < MAX_CACHES }
     ensures { (n : ℕ) → slice_index_or marks.new n false ≡ (n == number || slice_index_or marks.old n false) }
 {
     marks[number as usize] = true;
@@ -27,7 +27,7 @@ pub(crate) fn clear_mark(marks: &mut [bool; CACHES], number: u32)
 
 /// Returns marks that are set for the caches that have a live object.
 pub(crate) fn marks_of_used(held: &Held) -> [bool; CACHES]
-    ensures { (n : ℕ) → slice_index_or result n false ≡ (nat_lt n MOST_CACHES && is_in_use (known_cache held.now n)) }
+    ensures { (n : ℕ) → slice_index_or result n false ≡ (nat_lt n MAX_CACHES && is_in_use (known_cache held.now n)) }
 {
     let mut marks = [false; CACHES];
     for n in 0..CACHES {

@@ -5,7 +5,7 @@
 ghost use Rattle.std.specs.Prelude.{◌≡◌, ℕ, ◌+◌, ◌*◌, ◌^◌, ◌≤◌, ◌<◌, ◌==◌, ◌&&◌, nat_le, drop, length, slice_index, slice_index_or, false, true};
 ghost use Rattle.std.specs.List.{list_all, range_with_len, zip};
 ghost use Rattle.std.specs.Option.{option_copied, option_map_or, option_eq};
-ghost use Rattle.model_core.specs.declared.limits.TheConstants.{MOST_ORDER};
+ghost use Rattle.model_core.specs.declared.limits.TheConstants.{MAX_ORDER};
 ghost use Rattle.model_core.specs.Reports.{greatest, split_share};
 ghost use Rattle.words_core.specs.declared.event.Event.TheVariants as On;
 ghost use Rattle.words_core.specs.declared.event.Command.TheVariants as Asked;
@@ -53,7 +53,7 @@ impl Tenant {
 
 /// Returns whether the report's figures are right for what the tenant has.
 fn tells_state(held: &Held, order: u8, may_have_empty: &[bool], r: &Report) -> bool
-    requires { order ≤ MOST_ORDER }
+    requires { order ≤ MAX_ORDER }
     ensures { (t : ℕ) (w : Known) (s : State) → result ≡ report (On.Tenant t Asked.Report) (Say.Report r.now)
         (record w { order = order }) (record s { has = held.now; may_have_empty = λ n. slice_index_or may_have_empty.now n false }) }
 {
@@ -88,7 +88,7 @@ fn has_rows(held: &Held, order: u8, free: &[u32], rows: &[CacheRow]) -> bool
 /// slots, and the sum of its numbers of live and of free frames. Its number of free frames must be the number of frames in the
 /// free blocks of its rows, and its number of live frames the number of frames in the taken blocks of its rows.
 fn has_frames(held: &Held, order: u8, r: &Report, free: &[u32], taken: &[u32]) -> bool
-    requires order { order ≤ MOST_ORDER }
+    requires order { order ≤ MAX_ORDER }
     requires free { length free.now ≤ ORDERS }
     requires taken { length taken.now ≤ ORDERS }
     ensures { result ≡ ((r.now.frames == length held.now.slots * 2 ^ order && r.now.live + r.now.free == r.now.frames)
@@ -104,7 +104,7 @@ fn has_frames(held: &Held, order: u8, r: &Report, free: &[u32], taken: &[u32]) -
 /// agree with its other figures.
 #[tactic(auto, using(crate::proofs::Lists::same_share))]
 fn is_split(order: u8, r: &Report, free: &[u32]) -> bool
-    requires { order ≤ MOST_ORDER }
+    requires { order ≤ MAX_ORDER }
     ensures { result ≡ (option_eq (λ i j. i == j) r.now.top (greatest (slice_index free.now) (order + 1))
         && r.now.split == split_share r.now.free r.now.top) }
 {
@@ -115,7 +115,7 @@ fn is_split(order: u8, r: &Report, free: &[u32]) -> bool
 /// Returns whether, for each order, the reported number of taken blocks is the number of page blocks plus the number of slabs in
 /// the rows.
 fn are_all_taken(held: &Held, order: u8, rows: &[CacheRow], taken: &[u32]) -> bool
-    requires order { order ≤ MOST_ORDER }
+    requires order { order ≤ MAX_ORDER }
     requires rows { length rows.now ≤ CACHES }
     ensures { result ≡ list_all (λ k. slice_index taken.now k == known_count held.now rows.now k) (range_with_len 0 (order + 1)) }
 {
@@ -126,7 +126,7 @@ fn are_all_taken(held: &Held, order: u8, rows: &[CacheRow], taken: &[u32]) -> bo
 /// held slots counts the vacant blocks of all orders.
 #[tactic(auto, using(crate::proofs::Lists::all_from))]
 fn have_room(held: &Held, order: u8, free: &[u32]) -> bool
-    requires order { order ≤ MOST_ORDER }
+    requires order { order ≤ MAX_ORDER }
     requires short { length free.now ≤ ORDERS }
     ensures { result ≡ list_all (λ k. nat_le (frames_of_counts (drop k free.now)) (length (vacant_blocks order held.now k)))
         (range_with_len 0 (order + 1)) }

@@ -1,7 +1,7 @@
 //! What is known of a tenant.
 
 ghost use Rattle.std.specs.Prelude.{◌≡◌, ◌≤◌, ℕ, IfOk, None, find, length};
-ghost use Rattle.model_core.specs.declared.limits.TheConstants.{MOST_ORDER, MOST_SUPERBLOCKS};
+ghost use Rattle.model_core.specs.declared.limits.TheConstants.{MAX_ORDER, MAX_SUPERBLOCKS};
 ghost use Rattle.model_core.specs.Operations.{overlaps};
 ghost use Rattle.words_core.specs.Requests.{body_of_answer};
 ghost use Rattle.words_core.specs.declared.event.Event.TheVariants as On;
@@ -43,8 +43,8 @@ impl Model for Tenant {
 impl Tenant {
     /// Returns a tenant that has nothing, with capacity for `slots` slots of `2^order` frames. Fails if memory runs out.
     pub fn new(alloc: Global, order: u8, slots: u16) -> Result<Tenant, AllocError>
-        requires order { order ≤ MOST_ORDER }
-        requires slots { slots ≤ MOST_SUPERBLOCKS }
+        requires order { order ≤ MAX_ORDER }
+        requires slots { slots ≤ MAX_SUPERBLOCKS }
         ensures { IfOk result (IsOpeningTenant order) }
     {
         Ok(Tenant {
@@ -59,7 +59,7 @@ impl Tenant {
     /// Returns the order of a slot, which has `2^order` frames.
     pub fn order(&self) -> u8
         ensures value { result ≡ self.now.left.order }
-        ensures most { result ≤ MOST_ORDER }
+        ensures most { result ≤ MAX_ORDER }
     {
         self.left.order()
     }

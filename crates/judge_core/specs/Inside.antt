@@ -2,7 +2,7 @@
 use Rattle.std.specs.Prelude.{◌≡◌, ℕ, ◌+◌, ◌-◌, ◌*◌, ◌%◌, ◌^◌, ◌≤◌, true, List, map}
 use Rattle.std.specs.List.{All}
 use Rattle.std.specs.List.Sorted.{IsNonDecreasingBy}
-use Rattle.model_core.specs.declared.limits.TheConstants.{FRAME_BYTES, MOST_SIZE, MOST_ORDER}
+use Rattle.model_core.specs.declared.limits.TheConstants.{FRAME_BYTES, MAX_SIZE, MAX_ORDER}
 use Rattle.model_core.specs.Blocks.{Block}
 use Rattle.model_core.specs.Layouts.{is_alignment}
 use Rattle.model_core.specs.WellFormed.{RisesFrom}
@@ -11,11 +11,11 @@ use Rattle.promise_core.specs.Holdings.{KnownCache, slab_around}
 -- a cache can have objects of this size, alignment and chunk, in slabs of this order and with this number of objects
 pub record IsKnownLayout (size align chunk order count : ℕ) : Type 0 where
   pub some : 1 ≤ size
-  pub most : size ≤ MOST_SIZE
+  pub most : size ≤ MAX_SIZE
   pub alignment : is_alignment align ≡ true
   pub chunked : size ≤ chunk
   pub aligned : chunk % align ≡ 0
-  pub small : order ≤ MOST_ORDER
+  pub small : order ≤ MAX_ORDER
   pub counted : 1 ≤ count
   pub fits : count * chunk ≤ FRAME_BYTES * 2 ^ order
 
@@ -27,7 +27,7 @@ IsObjectAt c place i = let slab = slab_around c place in let origin = place - i 
 
 -- the live page blocks are in ascending order of their first frames, and none has more than 2 ^ longest frames
 pub record ArePages (longest : ℕ) (pages : List Block) : Type 0 where
-  pub most : longest ≤ MOST_ORDER
+  pub most : longest ≤ MAX_ORDER
   pub rise : IsNonDecreasingBy (λ b. b.first) pages
   pub short : All (λ b. b.order ≤ longest) pages
 

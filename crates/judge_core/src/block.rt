@@ -1,7 +1,7 @@
 //! A block of frames.
 
 ghost use Rattle.std.specs.Prelude.{◌≡◌, ◌+◌, ◌*◌, ◌^◌, ◌≤◌, ◌<◌};
-ghost use Rattle.model_core.specs.declared.limits.TheConstants.{FRAME_BYTES, MOST_ORDER};
+ghost use Rattle.model_core.specs.declared.limits.TheConstants.{FRAME_BYTES, MAX_ORDER};
 ghost use Rattle.model_core.specs.Blocks.{block, around, slot_block};
 ghost use Rattle.model_core.specs.Operations.{overlaps};
 ghost use Rattle.model_core.specs.Reach.{within_block};
@@ -19,13 +19,13 @@ pub struct FrameBlock {
 impl Model for FrameBlock {
     ghost use Rattle.std.specs.Prelude.{◌≤◌};
     ghost use Rattle.model_core.specs.Blocks.{Block, block};
-    ghost use Rattle.model_core.specs.declared.limits.TheConstants.{MOST_ORDER};
+    ghost use Rattle.model_core.specs.declared.limits.TheConstants.{MAX_ORDER};
 
     ghost Value = { Block };
 
     ghost view = { λ b. block b.first b.order };
 
-    ghost invariant = { λ b. b.order ≤ MOST_ORDER };
+    ghost invariant = { λ b. b.order ≤ MAX_ORDER };
 
     ghost inverse = { λ b. record { first = b.first; order = b.order } };
 }
@@ -33,7 +33,7 @@ impl Model for FrameBlock {
 impl FrameBlock {
     /// Returns the block of `2^order` frames that begins at frame `first`.
     pub fn new(first: u32, order: u8) -> FrameBlock
-        requires { order ≤ MOST_ORDER }
+        requires { order ≤ MAX_ORDER }
         ensures { result ≡ block first order }
     {
         FrameBlock { first, order }
@@ -41,7 +41,7 @@ impl FrameBlock {
 
     /// Returns the aligned block of this order that contains the frame.
     pub fn around(frame: u32, order: u8) -> FrameBlock
-        requires { order ≤ MOST_ORDER }
+        requires { order ≤ MAX_ORDER }
         ensures { result ≡ around frame order }
     {
         let frames = 1u32 << order;
@@ -54,7 +54,7 @@ impl FrameBlock {
     /// Returns the aligned block with this order and number. It begins at frame `number * 2^order`.
     pub fn numbered(number: u32, order: u8) -> FrameBlock
         requires number { number < 2 ^ 24 }
-        requires order { order ≤ MOST_ORDER }
+        requires order { order ≤ MAX_ORDER }
         ensures { result ≡ block (number * 2 ^ order) order }
     {
         FrameBlock {
@@ -65,7 +65,7 @@ impl FrameBlock {
 
     /// Returns the block of all frames of a slot of `2^order` frames.
     pub fn of_slot(order: u8, slot: u16) -> FrameBlock
-        requires { order ≤ MOST_ORDER }
+        requires { order ≤ MAX_ORDER }
         ensures { result ≡ slot_block order slot }
     {
         FrameBlock {
@@ -84,7 +84,7 @@ impl FrameBlock {
     /// Returns the order. The block has `2^order` frames.
     pub fn order(&self) -> u8
         ensures value { result ≡ self.now.order }
-        ensures most { result ≤ MOST_ORDER }
+        ensures most { result ≤ MAX_ORDER }
     {
         self.order
     }

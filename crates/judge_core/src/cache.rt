@@ -2,7 +2,7 @@
 
 ghost use Rattle.std.specs.Prelude.{◌≡◌, ℕ, ◌+◌, ◌-◌, ◌*◌, ◌/◌, ◌%◌, ◌^◌, ◌<◌, ◌≤◌, nat_le, nat_lt, ◌==◌, ◌&&◌, not, find, filter, length, [], IfOk, OnErr};
 ghost use Rattle.std.specs.List.{list_any, list_all};
-ghost use Rattle.model_core.specs.declared.limits.TheConstants.{FRAME_BYTES, MOST_ORDER, MOST_SIZE};
+ghost use Rattle.model_core.specs.declared.limits.TheConstants.{FRAME_BYTES, MAX_ORDER, MAX_SIZE};
 ghost use Rattle.model_core.specs.Choice.{is_any_below};
 ghost use Rattle.model_core.specs.Operations.{overlaps};
 ghost use Rattle.model_core.specs.Layouts.{pattern_byte};
@@ -15,7 +15,7 @@ use crate::block::FrameBlock;
 use crate::layout::KnownLayout;
 use crate::rising::{all_within, first_from, first_within, put, remove, with_key};
 use arrayvec::ArrayVec;
-use model_core::limits::{FRAME_BYTES, MOST_PATTERN};
+use model_core::limits::{FRAME_BYTES, MAX_PATTERN};
 use std::alloc::{AllocError, Global};
 use std::marker::Model;
 
@@ -25,7 +25,7 @@ pub struct HeldCache {
     number: u8,
     size: u32,
     align: u32,
-    pattern: ArrayVec<u8, MOST_PATTERN>,
+    pattern: ArrayVec<u8, MAX_PATTERN>,
     chunk: u32,
     order: u8,
     count: u32,
@@ -51,7 +51,7 @@ impl HeldCache {
         alloc: Global,
         number: u8,
         layout: KnownLayout,
-        pattern: &ArrayVec<u8, MOST_PATTERN>,
+        pattern: &ArrayVec<u8, MAX_PATTERN>,
     ) -> HeldCache
         requires { IsKnownLayout layout.size layout.align layout.chunk layout.order layout.count }
         ensures { result ≡ record {
@@ -100,11 +100,11 @@ impl HeldCache {
         self.number
     }
 
-    /// Returns the size of an object in bytes, 1 to `MOST_SIZE`.
+    /// Returns the size of an object in bytes, 1 to `MAX_SIZE`.
     pub fn size(&self) -> u32
         ensures value { result ≡ self.now.size }
         ensures some { 1 ≤ result }
-        ensures most { result ≤ MOST_SIZE }
+        ensures most { result ≤ MAX_SIZE }
     {
         self.size
     }
@@ -119,7 +119,7 @@ impl HeldCache {
     /// Returns the order of a slab, which has `2^order` frames.
     pub fn order(&self) -> u8
         ensures value { result ≡ self.now.order }
-        ensures most { result ≤ MOST_ORDER }
+        ensures most { result ≤ MAX_ORDER }
     {
         self.order
     }

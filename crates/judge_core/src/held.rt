@@ -3,7 +3,7 @@
 ghost use Rattle.std.specs.Prelude.{◌≡◌, ℕ, ◌+◌, ◌-◌, ◌*◌, ◌/◌, ◌%◌, ◌^◌, ◌<◌, ◌≤◌, nat_le, nat_lt, ◌==◌, ◌&&◌, Bool, map, find, filter, length, Some, option_map, true, false, MatchOption, slice_index_or, position, IfSome};
 ghost use Rattle.std.specs.List.{list_any, list_all, range_with_len};
 ghost use Rattle.std.specs.Option.{option_copied};
-ghost use Rattle.model_core.specs.declared.limits.TheConstants.{MOST_ORDER, MOST_CACHES};
+ghost use Rattle.model_core.specs.declared.limits.TheConstants.{MAX_ORDER, MAX_CACHES};
 ghost use Rattle.model_core.specs.Machine.{order_in};
 ghost use Rattle.model_core.specs.Blocks.{Block, block};
 ghost use Rattle.model_core.specs.Operations.{overlaps};
@@ -17,7 +17,7 @@ use crate::cache::HeldCache;
 use crate::holder::RangeHolder;
 use crate::rising::{all_within, with_key};
 use crate::vacancy::count_clear;
-use model_core::limits::{FRAME_BYTES, MOST_CACHES};
+use model_core::limits::{FRAME_BYTES, MAX_CACHES};
 use std::marker::Model;
 
 /// A tenant's slots, its live page blocks by first frame, and its caches by number, all in ascending order.
@@ -124,11 +124,11 @@ impl Held {
             .find(|cache| u32::from(cache.number()) == number)
     }
 
-    /// Returns whether the tenant has `MOST_CACHES` caches, the most that it may have.
+    /// Returns whether the tenant has `MAX_CACHES` caches, the most that it may have.
     pub fn has_most_caches(&self) -> bool
-        ensures { result ≡ nat_le MOST_CACHES (length self.now.caches) }
+        ensures { result ≡ nat_le MAX_CACHES (length self.now.caches) }
     {
-        usize::from(MOST_CACHES) <= self.caches.len()
+        usize::from(MAX_CACHES) <= self.caches.len()
     }
 
     /// Returns whether no frame of the block is taken.
@@ -181,7 +181,7 @@ impl Held {
     /// Returns whether this block can become a page block or a slab. Slots have `2^order` frames.
     #[tactic(auto, unfolding(promise_core::specs::Holdings::can_stand))]
     pub fn can_stand(&self, order: u8, block: &FrameBlock) -> bool
-        requires { order ≤ MOST_ORDER }
+        requires { order ≤ MAX_ORDER }
         ensures { result ≡ can_stand order self.now block.now }
     {
         block.order() <= order
@@ -192,7 +192,7 @@ impl Held {
 
     /// Returns whether a frame of the slot is taken.
     pub fn is_slot_busy(&self, order: u8, slot: u16) -> bool
-        requires { order ≤ MOST_ORDER }
+        requires { order ≤ MAX_ORDER }
         ensures { result ≡ is_slot_busy order self.now slot }
     {
         !self.is_vacant(&FrameBlock::of_slot(order, slot))
@@ -200,8 +200,8 @@ impl Held {
 
     /// Returns how many aligned blocks of `2^k` frames in a slot of `2^order` frames have no taken frame.
     fn count_vacant_in(&self, order: u8, k: u8, slot: u16) -> u32
-        requires order { order ≤ MOST_ORDER }
-        requires k { k ≤ MOST_ORDER }
+        requires order { order ≤ MAX_ORDER }
+        requires k { k ≤ MAX_ORDER }
         ensures value { result ≡ length (filter (is_vacant self.now) (blocks_of_slot order k slot)) }
         ensures most { result ≤ 256 }
     {
@@ -218,7 +218,7 @@ impl Held {
     /// Returns how many of the aligned blocks of `2^k` frames with the numbers `begin` to `begin + blocks - 1` have no taken
     /// frame.
     fn count_vacant_from(&self, k: u8, begin: u32, blocks: u32) -> u32
-        requires k { k ≤ MOST_ORDER }
+        requires k { k ≤ MAX_ORDER }
         requires end { begin + blocks ≤ 2 ^ 24 }
         ensures value { result ≡ length (filter (is_vacant self.now) (map (λ i. block (i * 2 ^ k) k) (range_with_len begin blocks))) }
         ensures most { result ≤ blocks }
@@ -234,8 +234,8 @@ impl Held {
 
     /// Returns how many aligned blocks of `2^k` frames in held slots of `2^order` frames have no taken frame.
     pub fn count_vacant(&self, order: u8, k: u8) -> u128
-        requires order { order ≤ MOST_ORDER }
-        requires k { k ≤ MOST_ORDER }
+        requires order { order ≤ MAX_ORDER }
+        requires k { k ≤ MAX_ORDER }
         ensures { result ≡ length (vacant_blocks order self.now k) }
     {
         let mut count = 0u128;
@@ -247,8 +247,8 @@ impl Held {
 
     /// Returns whether some aligned block of `2^k` frames in a held slot has no taken frame.
     pub fn has_vacant_block(&self, order: u8, k: u8) -> bool
-        requires order { order ≤ MOST_ORDER }
-        requires k { k ≤ MOST_ORDER }
+        requires order { order ≤ MAX_ORDER }
+        requires k { k ≤ MAX_ORDER }
         ensures { result ≡ has_vacant_block order self.now k }
     {
         self.count_vacant(order, k) > 0
@@ -257,7 +257,7 @@ impl Held {
     /// Returns whether a take from the cache may return the object at the place.
     #[tactic(auto, unfolding(promise_core::specs::Holdings::can_be_taken))]
     pub fn can_be_taken(&self, order: u8, cache: &HeldCache, place: u32) -> bool
-        requires { order ≤ MOST_ORDER }
+        requires { order ≤ MAX_ORDER }
         ensures { result ≡ can_be_taken order self.now cache.now place }
     {
         if !cache.is_aligned(place) {

@@ -1,7 +1,7 @@
 //! How answers change a tenant's holdings.
 
 ghost use Rattle.std.specs.Prelude.{◌≡◌, ◌≤◌, ◌==◌, not, filter, [], None, IfOk, OnErr};
-ghost use Rattle.model_core.specs.declared.limits.TheConstants.{MOST_ORDER, MOST_SUPERBLOCKS};
+ghost use Rattle.model_core.specs.declared.limits.TheConstants.{MAX_ORDER, MAX_SUPERBLOCKS};
 ghost use Rattle.model_core.specs.Machine.{put_rising};
 ghost use Rattle.promise_core.specs.Holdings.{known_cache, with_live_places};
 
@@ -9,15 +9,15 @@ use crate::block::FrameBlock;
 use crate::cache::HeldCache;
 use crate::held::{Held, index_of_cache};
 use crate::rising::{put, remove};
-use model_core::limits::MOST_CACHES;
+use model_core::limits::MAX_CACHES;
 use std::alloc::{AllocError, Global};
 
 impl Held {
-    /// Returns empty holdings, with capacity for `slots` slots of `2^order` frames, a page block in each frame, and `MOST_CACHES`
+    /// Returns empty holdings, with capacity for `slots` slots of `2^order` frames, a page block in each frame, and `MAX_CACHES`
     /// caches. Fails if memory runs out.
     pub fn new(alloc: Global, order: u8, slots: u16) -> Result<Held, AllocError>
-        requires order { order ≤ MOST_ORDER }
-        requires slots { slots ≤ MOST_SUPERBLOCKS }
+        requires order { order ≤ MAX_ORDER }
+        requires slots { slots ≤ MAX_SUPERBLOCKS }
         ensures { IfOk result (λ h. h ≡ record { slots = []; pages = []; caches = [] }) }
     {
         let frames = usize::from(slots) << order;
@@ -25,7 +25,7 @@ impl Held {
             slots: Vec::with_capacity(alloc, slots.into())?,
             pages: Vec::with_capacity(alloc, frames)?,
             longest: 0,
-            caches: Vec::with_capacity(alloc, MOST_CACHES.into())?,
+            caches: Vec::with_capacity(alloc, MAX_CACHES.into())?,
         })
     }
 

@@ -3,7 +3,7 @@
 ghost use Rattle.std.specs.Prelude.{◌≡◌, ℕ, ◌+◌, ◌*◌, ◌^◌, ◌<◌, ◌≤◌, not, ◌||◌, false, length, filter, slice_index, slice_index_or, take, drop, nat_lt};
 ghost use Rattle.std.specs.List.{list_any, prefix_len};
 ghost use Rattle.std.specs.List.Sorted.{IsNonDecreasing};
-ghost use Rattle.model_core.specs.declared.limits.TheConstants.{FRAME_BYTES, MOST_ORDER};
+ghost use Rattle.model_core.specs.declared.limits.TheConstants.{FRAME_BYTES, MAX_ORDER};
 ghost use Rattle.model_core.specs.Blocks.{block};
 ghost use Rattle.model_core.specs.Operations.{overlaps};
 ghost use Rattle.promise_core.specs.Holdings.{is_vacant, slab_around, blocks_of_slot, vacant_blocks};
@@ -15,16 +15,16 @@ use crate::rising::{count_below, count_below_near};
 use words_core::ORDERS;
 
 /// The largest number of frames in a slot.
-const MOST_FRAMES: usize = 256;
+const MAX_SLOT_FRAMES: usize = 256;
 
 impl Held {
     /// Returns for each frame of a slot, in order, whether it is taken.
-    pub(crate) fn taken_in(&self, slot: &FrameBlock) -> [bool; MOST_FRAMES]
+    pub(crate) fn taken_in(&self, slot: &FrameBlock) -> [bool; MAX_SLOT_FRAMES]
         ensures long { length result ≡ 256 }
         ensures taken { (f : ℕ) → f < 2 ^ slot.now.order
             → slice_index_or result f false ≡ not (is_vacant self.now (block (slot.now.first + f) 0)) }
     {
-        let mut taken = [false; MOST_FRAMES];
+        let mut taken = [false; MAX_SLOT_FRAMES];
         let pages = self.pages_near(u64::from(slot.first()), slot.end());
         mark_blocks(&mut taken, slot, pages);
         mark_caches(&mut taken, slot, &self.caches);
@@ -33,7 +33,7 @@ impl Held {
 
     /// Returns the result of [`Held::count_vacant`] for each order from 0 to a slot's order, but passes over the slots only once.
     pub fn vacant_by_order(&self, order: u8) -> [u128; ORDERS]
-        requires { order ≤ MOST_ORDER }
+        requires { order ≤ MAX_ORDER }
         ensures long { length result ≡ 9 }
         ensures counts { (k : ℕ) → k ≤ order → slice_index result k ≡ length (vacant_blocks order self.now k) }
     {
@@ -46,7 +46,7 @@ impl Held {
 
     /// Adds the vacant blocks of a slot to the counts of their orders.
     fn add_vacant(&self, counts: &mut [u128; ORDERS], order: u8, slot: u16)
-        requires order { order ≤ MOST_ORDER }
+        requires order { order ≤ MAX_ORDER }
         requires few { (k : ℕ) → slice_index counts.old k + 256 < 2 ^ 128 }
         ensures added { (k : ℕ) → k ≤ order
             → slice_index counts.new k ≡ slice_index counts.old k + length (filter (is_vacant self.now) (blocks_of_slot order k slot)) }
@@ -63,7 +63,7 @@ impl Held {
 }
 
 /// Returns how many of the first `blocks` marks are not set.
-pub(crate) fn count_clear(taken: &[bool; MOST_FRAMES], blocks: usize) -> usize
+pub(crate) fn count_clear(taken: &[bool; MAX_SLOT_FRAMES], blocks: usize) -> usize
     requires { blocks ≤ 256 }
     ensures value { result ≡ length (filter not (take blocks taken.now)) }
     ensures most { result ≤ 256 }
@@ -72,7 +72,7 @@ pub(crate) fn count_clear(taken: &[bool; MOST_FRAMES], blocks: usize) -> usize
 }
 
 /// For each `i` below `pairs`, sets mark `i` if mark `2 * i` or mark `2 * i + 1` was set, and clears it otherwise.
-fn join_pairs(taken: &mut [bool; MOST_FRAMES], pairs: usize)
+fn join_pairs(taken: &mut [bool; MAX_SLOT_FRAMES], pairs: usize)
     requires { pairs ≤ 128 }
     ensures { (i : ℕ) → i < pairs → slice_index_or taken.new i false
         ≡ (slice_index_or taken.old (2 * i) false || slice_index_or taken.old (2 * i + 1) false) }
@@ -83,7 +83,7 @@ fn join_pairs(taken: &mut [bool; MOST_FRAMES], pairs: usize)
 }
 
 /// Marks the frames of the slot that lie in one of these blocks.
-fn mark_blocks(taken: &mut [bool; MOST_FRAMES], slot: &FrameBlock, blocks: &[FrameBlock])
+fn mark_blocks(taken: &mut [bool; MAX_SLOT_FRAMES], slot: &FrameBlock, blocks: &[FrameBlock])
     ensures { (f : ℕ) → f < 2 ^ slot.now.order → slice_index_or taken.new f false
         ≡ (slice_index_or taken.old f false || list_any (overlaps (block (slot.now.first + f) 0)) blocks.now) }
 {
@@ -93,7 +93,7 @@ fn mark_blocks(taken: &mut [bool; MOST_FRAMES], slot: &FrameBlock, blocks: &[Fra
 }
 
 /// Marks the frames of the slot that lie in a slab with a live object of one of these caches.
-fn mark_caches(taken: &mut [bool; MOST_FRAMES], slot: &FrameBlock, caches: &[HeldCache])
+fn mark_caches(taken: &mut [bool; MAX_SLOT_FRAMES], slot: &FrameBlock, caches: &[HeldCache])
     ensures { (f : ℕ) → f < 2 ^ slot.now.order → slice_index_or taken.new f false ≡ (slice_index_or taken.old f false
         || list_any (λ c. list_any (λ p. overlaps (block (slot.now.first + f) 0) (slab_around c p)) c.live) caches.now) }
 {
@@ -108,7 +108,7 @@ fn mark_caches(taken: &mut [bool; MOST_FRAMES], slot: &FrameBlock, caches: &[Hel
 
 impl HeldCache {
     /// Marks the frames of the slot that lie in a slab with a live object, one slab after the other.
-    fn mark_slabs(&self, taken: &mut [bool; MOST_FRAMES], slot: &FrameBlock)
+    fn mark_slabs(&self, taken: &mut [bool; MAX_SLOT_FRAMES], slot: &FrameBlock)
         ensures { (f : ℕ) → f < 2 ^ slot.now.order → slice_index_or taken.new f false ≡ (slice_index_or taken.old f false
             || list_any (λ p. overlaps (block (slot.now.first + f) 0) (slab_around self.now p)) self.now.live) }
     {
@@ -136,7 +136,7 @@ impl HeldCache {
 }
 
 /// Marks the frames of the slot that lie in the block.
-fn mark(taken: &mut [bool; MOST_FRAMES], slot: &FrameBlock, other: &FrameBlock)
+fn mark(taken: &mut [bool; MAX_SLOT_FRAMES], slot: &FrameBlock, other: &FrameBlock)
     ensures { (f : ℕ) → f < 2 ^ slot.now.order → slice_index_or taken.new f false
         ≡ (slice_index_or taken.old f false || overlaps (block (slot.now.first + f) 0) other.now) }
 {

@@ -5,7 +5,7 @@ use Rattle.model_core.specs.Layouts.{is_size, is_alignment}
 use Rattle.model_core.specs.Machine.{Machine}
 use Rattle.model_core.specs.CacheOperations.{create_step, cache_answer, cache_step, take_step}
 use Rattle.model_core.specs.Operations.{Step}
-use Rattle.model_core.specs.declared.limits.TheConstants.{MOST_CACHES}
+use Rattle.model_core.specs.declared.limits.TheConstants.{MAX_CACHES}
 use Rattle.model_core.specs.declared.refusals.CacheRefusal.{CacheRefusal}
 use Rattle.model_core.specs.declared.refusals.TakeRefusal.{TakeRefusal}
 use Rattle.layout_core.specs.Cut.{Cut, cut, layout_or_refusal}
@@ -53,16 +53,16 @@ abbrev judged : ℕ → ℕ → Bool → Bool → Result Cut LayoutRefusal
 judged size align v w = if v then (if w then Ok (cut size align) else Err cutting.BadAlign) else Err cutting.BadSize
 
 abbrev by_layout : List ℕ → Machine → Result Cut LayoutRefusal → Step (Result ℕ CacheRefusal)
-by_layout pattern m (Ok l) = cache_answer (create_step MOST_CACHES l.size l.align pattern m)
+by_layout pattern m (Ok l) = cache_answer (create_step MAX_CACHES l.size l.align pattern m)
 by_layout pattern m (Err cutting.BadSize) = record { answer = Err CacheRefusal.BadSize; machine = m }
 by_layout pattern m (Err cutting.BadAlign) = record { answer = Err CacheRefusal.BadAlign; machine = m }
 
-step_is : (size align : ℕ) (pattern : List ℕ) (m : Machine) → cache_step MOST_CACHES size align pattern m ≡ by_layout pattern m (layout_or_refusal size align)
+step_is : (size align : ℕ) (pattern : List ℕ) (m : Machine) → cache_step MAX_CACHES size align pattern m ≡ by_layout pattern m (layout_or_refusal size align)
 unfolding cache_step
 step_is size align pattern m = go (is_size size) (is_alignment align)
   where
     go : (v w : Bool) → (if not v then record { answer = Err CacheRefusal.BadSize; machine = m }
-        else (if not w then record { answer = Err CacheRefusal.BadAlign; machine = m } else cache_answer (create_step MOST_CACHES size align pattern m)))
+        else (if not w then record { answer = Err CacheRefusal.BadAlign; machine = m } else cache_answer (create_step MAX_CACHES size align pattern m)))
         ≡ by_layout pattern m (judged size align v w)
     go false w = refl
     go true false = refl
@@ -89,18 +89,18 @@ cache_refused k t size align pattern limit refusal is same =
 -- refused with `NoCacheSlot` if all numbers are used
 pub created : (r : spaces.Content) (b : buddies.Content) (s s' : tables.Content) (t : ℕ) → ((u : ℕ) → u ≢ t → Keeps r r b b s s' u)
     → (size align : ℕ) (pattern : List ℕ) (l : Cut) (result : Option ℕ) → Ok l ≡ layout_or_refusal size align
-    → ((m : Machine) → ShowsMachine (content_of r b s) t m → result ≡ (create_step MOST_CACHES l.size l.align pattern m).answer)
+    → ((m : Machine) → ShowsMachine (content_of r b s) t m → result ≡ (create_step MAX_CACHES l.size l.align pattern m).answer)
     → ((m : Machine) → ShowsMachine (content_of r b s) t m
-    → ShowsMachine (content_of r b s') t (create_step MOST_CACHES l.size l.align pattern m).machine)
+    → ShowsMachine (content_of r b s') t (create_step MAX_CACHES l.size l.align pattern m).machine)
     → IfNone result (s' ≡ s)
     → StepsMachine (content_of r b s) t (Command.Cache size align (record { items = pattern })) (content_of r b s')
     (cache_body size align (ok_or result CacheRefusal.NoCacheSlot))
 unfolding command_step
 created r b s s' t others size align pattern l result is answer shows refused =
-    let step : (m : Machine) → cache_step MOST_CACHES size align pattern m ≡ cache_answer (create_step MOST_CACHES l.size l.align pattern m) = λ m.
+    let step : (m : Machine) → cache_step MAX_CACHES size align pattern m ≡ cache_answer (create_step MAX_CACHES l.size l.align pattern m) = λ m.
     step_is size align pattern m ∙ ap (by_layout pattern m) (sym is) in
     commanded (content_of r b s) (content_of r b s') t (Command.Cache size align (record { items = pattern })) (cache_body size align)
-    (cache_step MOST_CACHES size align pattern) (ok_or result CacheRefusal.NoCacheSlot) (λ m. refl) (record {
+    (cache_step MAX_CACHES size align pattern) (ok_or result CacheRefusal.NoCacheSlot) (λ m. refl) (record {
       sizes = record { order = refl; superblocks = refl; tenants = refl };
       shows = λ m shown. subst (λ (x : Step (Result ℕ CacheRefusal)). ShowsMachine (content_of r b s') t x.machine) (sym (step m)) (shows m shown);
       answer = λ m shown. ap (λ o. ok_or o CacheRefusal.NoCacheSlot) (answer m shown) ∙ sym (ap (λ (x : Step (Result ℕ CacheRefusal)). x.answer) (step m));

@@ -9,7 +9,7 @@ use Rattle.std.proofs.lemmas.Bool.{and_parts, leb-true}
 use Rattle.std.proofs.lemmas.Option.{slice_get_within, same_Some}
 use Rattle.std.specs.Prelude.{replicate}
 use Rattle.model_core.specs.Machine.{empty_machine}
-use Rattle.model_core.specs.declared.limits.TheConstants.{LEAST_ORDER, MOST_ORDER, MOST_SUPERBLOCKS, MOST_TENANTS}
+use Rattle.model_core.specs.declared.limits.TheConstants.{MIN_ORDER, MAX_ORDER, MAX_SUPERBLOCKS, MAX_TENANTS}
 use Rattle.world_core.specs.World.{opening_world}
 use Rattle.world_core.proofs.MachineLists.{slice_get-replicate}
 use Rattle.kernel_core.specs.Shows.{ShowsMachine, Shows}
@@ -38,13 +38,13 @@ opening_is order superblocks tenants = λ i. record {
 -- The world after boot
 
 -- if a configuration is bootable, its order and its numbers of superblocks and tenants are at most the limits
-pub bootable : (c : Config) → is_bootable c ≡ true → (c.order ≤ MOST_ORDER) × (c.superblocks ≤ MOST_SUPERBLOCKS) × (c.tenants ≤ MOST_TENANTS)
+pub bootable : (c : Config) → is_bootable c ≡ true → (c.order ≤ MAX_ORDER) × (c.superblocks ≤ MAX_SUPERBLOCKS) × (c.tenants ≤ MAX_TENANTS)
 bootable c is =
-    let first = and_parts (is_between LEAST_ORDER MOST_ORDER c.order) (is_between 1 MOST_SUPERBLOCKS c.superblocks && is_between 1 MOST_TENANTS c.tenants) is in
-    let second = and_parts (is_between 1 MOST_SUPERBLOCKS c.superblocks) (is_between 1 MOST_TENANTS c.tenants) first.1 in (
-      leb-true c.order MOST_ORDER (and_parts (nat_le LEAST_ORDER c.order) (nat_le c.order MOST_ORDER) first.0).1,
-      leb-true c.superblocks MOST_SUPERBLOCKS (and_parts (nat_le 1 c.superblocks) (nat_le c.superblocks MOST_SUPERBLOCKS) second.0).1,
-      leb-true c.tenants MOST_TENANTS (and_parts (nat_le 1 c.tenants) (nat_le c.tenants MOST_TENANTS) second.1).1,
+    let first = and_parts (is_between MIN_ORDER MAX_ORDER c.order) (is_between 1 MAX_SUPERBLOCKS c.superblocks && is_between 1 MAX_TENANTS c.tenants) is in
+    let second = and_parts (is_between 1 MAX_SUPERBLOCKS c.superblocks) (is_between 1 MAX_TENANTS c.tenants) first.1 in (
+      leb-true c.order MAX_ORDER (and_parts (nat_le MIN_ORDER c.order) (nat_le c.order MAX_ORDER) first.0).1,
+      leb-true c.superblocks MAX_SUPERBLOCKS (and_parts (nat_le 1 c.superblocks) (nat_le c.superblocks MAX_SUPERBLOCKS) second.0).1,
+      leb-true c.tenants MAX_TENANTS (and_parts (nat_le 1 c.tenants) (nat_le c.tenants MAX_TENANTS) second.1).1,
     )
 
 pub opening_world_shown : (order superblocks tenants : ℕ) → PartsAgree (opening_content order superblocks tenants)

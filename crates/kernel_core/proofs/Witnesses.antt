@@ -1,7 +1,7 @@
 -- After boot with superblocks of 8 frames, a kernel shows the opening world.
 use Rattle.std.proofs.Common.{ℕ, ◌≤◌, refl, arith}
 use Rattle.std.proofs.lemmas.List.{length-replicate}
-use Rattle.model_core.specs.declared.limits.TheConstants.{MOST_SUPERBLOCKS, MOST_TENANTS}
+use Rattle.model_core.specs.declared.limits.TheConstants.{MAX_SUPERBLOCKS, MAX_TENANTS}
 use Rattle.space_core.proofs.EmptySpace.{empty_space-IsSpace}
 use Rattle.machine_changes.proofs.EmptyTenant.{opening_shows}
 use Rattle.world_core.specs.World.{opening_world}
@@ -10,7 +10,7 @@ use Rattle.kernel_core.specs.Shows.{Shows}
 use Rattle.kernel_core.proofs.Opening.{opening_world_shown}
 
 -- with superblocks of 8 frames, the parts agree before the first event
-opening_agrees : (superblocks tenants : ℕ) → superblocks ≤ MOST_SUPERBLOCKS → tenants ≤ MOST_TENANTS → PartsAgree (opening_content 3 superblocks tenants)
+opening_agrees : (superblocks tenants : ℕ) → superblocks ≤ MAX_SUPERBLOCKS → tenants ≤ MAX_TENANTS → PartsAgree (opening_content 3 superblocks tenants)
 unfolding opening_content
 opening_agrees superblocks tenants few many = record {
   space = empty_space-IsSpace _ superblocks tenants (omega arith) (omega arith) few many;
@@ -23,5 +23,5 @@ opening_agrees superblocks tenants few many = record {
   agree = (opening_shows 3 superblocks tenants).agree;
 }
 
-pub opening_shown : (superblocks tenants : ℕ) → superblocks ≤ MOST_SUPERBLOCKS → tenants ≤ MOST_TENANTS → Shows (opening_content 3 superblocks tenants) (opening_world superblocks tenants)
+pub opening_shown : (superblocks tenants : ℕ) → superblocks ≤ MAX_SUPERBLOCKS → tenants ≤ MAX_TENANTS → Shows (opening_content 3 superblocks tenants) (opening_world superblocks tenants)
 opening_shown superblocks tenants few many = opening_world_shown 3 superblocks tenants (opening_agrees superblocks tenants few many)

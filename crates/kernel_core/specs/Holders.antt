@@ -1,6 +1,6 @@
 -- The live object or page block that a byte lies in.
 use Rattle.std.specs.Prelude.{ℕ, ◌+◌, ◌<◌, ◌≤◌, MatchOption}
-use Rattle.model_core.specs.declared.limits.TheConstants.{MOST_CACHES}
+use Rattle.model_core.specs.declared.limits.TheConstants.{MAX_CACHES}
 use Rattle.model_core.specs.Machine.{Machine}
 use Rattle.slab_core.specs.Lending.{HasObject}
 use Rattle.kernel_core.specs.Lending.{HasBlock}
@@ -8,7 +8,7 @@ use Rattle.kernel_core.specs.declared.holders.Holder.{Holder}
 
 -- a live object of cache c begins at `begin`, has this many bytes, and contains the place
 pub record HasObjectAround (m : Machine) (place c begin bytes : ℕ) : Type 0 where
-  pub number : c < MOST_CACHES
+  pub number : c < MAX_CACHES
   pub object : HasObject m c begin bytes
   pub from : begin ≤ place
   pub below : place < begin + bytes

@@ -6,7 +6,7 @@ ghost use Rattle.words_core.specs.declared.event.Event.TheVariants as On;
 ghost use Rattle.words_core.specs.declared.event.AdminCommand.TheVariants as Do;
 ghost use Rattle.words_core.specs.declared.reply.Addressee.TheVariants.{Admin};
 ghost use Rattle.words_core.specs.declared.reply.Body.TheVariants as Say;
-ghost use Rattle.model_core.specs.declared.limits.TheConstants.{MOST_SUPERBLOCKS};
+ghost use Rattle.model_core.specs.declared.limits.TheConstants.{MAX_SUPERBLOCKS};
 ghost use Rattle.kernel_core.specs.Content.{PartsAgree};
 ghost use Rattle.kernel_core.specs.Steps.{Steps, to_admin};
 ghost use Rattle.kernel_core.specs.GivenUp.{GivesUp};
@@ -134,7 +134,7 @@ impl Kernel {
     pub fn owners(&self) -> &[Option<Owner>]
         ensures steps { Steps self.now (On.Admin Do.Pool) self.now
             (record { addressee = Admin; body = Say.Owners (record { items = result.now }) }) }
-        ensures few { length result.now ≤ MOST_SUPERBLOCKS }
+        ensures few { length result.now ≤ MAX_SUPERBLOCKS }
     {
         self.space.laws();
         self.space.owners()
@@ -143,7 +143,7 @@ impl Kernel {
 
 /// Returns a copy of these owners.
 fn copied(owners: &[Option<Owner>]) -> ArrayVec<Option<Owner>, OWNERS>
-    requires { length owners.now ≤ MOST_SUPERBLOCKS }
+    requires { length owners.now ≤ MAX_SUPERBLOCKS }
     ensures { result.items ≡ owners.now }
 {
     let mut copied = ArrayVec::new();

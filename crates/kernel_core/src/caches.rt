@@ -20,7 +20,7 @@ use words_core::{Answer, Refusal};
 impl Kernel {
     /// Makes a cache of objects of `size` bytes. An object begins at a multiple of `align` and is constructed with the pattern.
     ///
-    /// Refuses with `BadSize`, then with `BadAlign`, then with `NoCacheSlot` if the tenant already has `MOST_CACHES` caches.
+    /// Refuses with `BadSize`, then with `BadAlign`, then with `NoCacheSlot` if the tenant already has `MAX_CACHES` caches.
     // Always inlined: a call would return the answer in memory. Since all arms of `Kernel::run` share one answer, requests of
     // other kinds would then clear that memory and read their answers from there too.
     #[inline(always)]

@@ -1,7 +1,7 @@
 //! A tenant's commands on page blocks and bytes.
 
 ghost use Rattle.std.specs.Prelude.{◌≡◌, ◌↔◌, true, ◌*◌, ◌/◌, ◌^◌, ◌<◌, ◌≤◌, Some, length, IfOk, MatchOption};
-ghost use Rattle.model_core.specs.declared.limits.TheConstants.{MOST_ORDER};
+ghost use Rattle.model_core.specs.declared.limits.TheConstants.{MAX_ORDER};
 ghost use Rattle.space_core.specs.Windows.{home_of, window_of, with_window};
 ghost use Rattle.machine_changes.specs.Pages.{IsInReach};
 ghost use Rattle.machine_changes.specs.Slots.{HoldTogether};
@@ -13,7 +13,7 @@ ghost use Rattle.kernel_core.specs.Steps.{StepsMachine, body_of};
 
 use crate::Kernel;
 use buddy_core::ReservedBlock;
-use model_core::limits::{FRAME_BYTES, MOST_BYTES};
+use model_core::limits::{FRAME_BYTES, MAX_BYTES};
 use space_core::Space;
 use words_core::Refusal;
 
@@ -78,9 +78,9 @@ impl Kernel {
         requires { t < self.now.tenants }
         ensures steps { StepsMachine self.now t (Command.Read place len) self.now
             (body_of (λ bytes. Bytes (record { items = bytes.now })) result) }
-        ensures few { IfOk result (λ bytes. length bytes.now ≤ MOST_BYTES) }
+        ensures few { IfOk result (λ bytes. length bytes.now ≤ MAX_BYTES) }
     {
-        if len < 1 || len > MOST_BYTES as u32 {
+        if len < 1 || len > MAX_BYTES as u32 {
             return Err(Refusal::BadLength);
         }
         let Some(superblock) = self.reached(t, place, len) else {
@@ -96,7 +96,7 @@ impl Kernel {
     #[inline(always)]
     pub(crate) fn write(&mut self, t: u8, place: u32, bytes: &[u8]) -> Result<u32, Refusal>
         requires tenant { t < self.old.tenants }
-        requires few { length bytes.now ≤ MOST_BYTES }
+        requires few { length bytes.now ≤ MAX_BYTES }
         ensures steps { StepsMachine self.old t (Command.Write place (record { items = bytes.now })) self.new
             (body_of Written result) }
         ensures count { IfOk result (λ count. count ≡ length bytes.now) }
@@ -164,7 +164,7 @@ impl Kernel {
 /// Borrows a range of tenant `t` that is in this superblock of `2^order` frames. Only the contract uses `t`.
 #[inline(always)]
 fn lent(space: &Space, superblock: u16, order: u32, t: u8, place: u32, len: u32) -> &[u8]
-    requires order { order ≤ MOST_ORDER }
+    requires order { order ≤ MAX_ORDER }
     requires unit { space.now.unit ≡ FRAME_BYTES * 2 ^ order }
     requires home { home_of space.now t place len ≡ Some superblock }
     ensures value { window_of space.now t place len ≡ Some result.now }
@@ -178,7 +178,7 @@ fn lent(space: &Space, superblock: u16, order: u32, t: u8, place: u32, len: u32)
 
 /// Writes bytes over a range of tenant `t` that is in this superblock.
 fn store(space: &mut Space, superblock: u16, t: u8, place: u32, bytes: &[u8])
-    requires few { length bytes.now ≤ MOST_BYTES }
+    requires few { length bytes.now ≤ MAX_BYTES }
     requires home { home_of space.old t place (length bytes.now) ≡ Some superblock }
     ensures { space.new ≡ with_window space.old t place (length bytes.now) bytes.now }
 {

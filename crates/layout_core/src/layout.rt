@@ -5,7 +5,7 @@ ghost use Rattle.layout_core.specs.Inside.{reciprocal_of as model_reciprocal_of}
 ghost use Rattle.layout_core.specs.Cut.{Cut, cut, numbers_of, layout_or_refusal};
 ghost use Rattle.layout_core.specs.Objects.{IsColour, Begins, Holds, IsOnly};
 
-use model_core::limits::{FRAME_BYTES, MOST_SIZE, RECORD_OFFSET};
+use model_core::limits::{FRAME_BYTES, MAX_SIZE, RECORD_OFFSET};
 use std::marker::Model;
 
 /// Why a size and an alignment have no layout.
@@ -53,7 +53,7 @@ impl Layout {
     pub fn of(size: u32, align: u32) -> Result<Layout, LayoutRefusal>
         ensures { result ≡ layout_or_refusal size align }
     {
-        if size == 0 || size > MOST_SIZE {
+        if size == 0 || size > MAX_SIZE {
             return Err(LayoutRefusal::BadSize);
         }
         if !matches!(align, 8 | 16 | 32 | 64 | 128 | 256) {

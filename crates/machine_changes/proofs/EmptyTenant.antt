@@ -5,7 +5,7 @@ use Rattle.std.specs.Prelude.{Option, is_some, option_map, replicate, slice_inde
 use Rattle.std.proofs.lemmas.Bool.{cases_lt}
 use Rattle.std.proofs.lemmas.List.{get_or-replicate, get_or_past, length-replicate}
 use Rattle.model_core.specs.Machine.{empty_machine}
-use Rattle.model_core.specs.declared.limits.TheConstants.{MOST_CACHES}
+use Rattle.model_core.specs.declared.limits.TheConstants.{MAX_CACHES}
 use Rattle.space_core.specs.Content as spaces
 use Rattle.buddy_core.specs.Content as buddies
 use Rattle.slab_tables.specs.Content.{Content, cache_in, cache_at, index_of_cache, empty_tables}
@@ -80,10 +80,10 @@ module _ (order superblocks tenants : ℕ) where
       long past = let same = length-replicate tenants (buddies.nothing_held order superblocks) in omega arith
 
   no_cache : (t c : ℕ) → cache_at s t c ≡ None
-  no_cache t c = go (ltb c MOST_CACHES)
+  no_cache t c = go (ltb c MAX_CACHES)
     where
       go : (v : Bool) → cond v (cache_in s.caches (index_of_cache t c)) None ≡ None
-      go true = none_in (MOST_CACHES * tenants) (index_of_cache t c)
+      go true = none_in (MAX_CACHES * tenants) (index_of_cache t c)
       go false = refl
 
   agrees : Agree r b s
@@ -93,7 +93,7 @@ module _ (order superblocks tenants : ℕ) where
     superblocks = length-replicate superblocks _;
     machine_frames = length-replicate (superblocks * 2 ^ order) _;
     rows = length-replicate tenants _ ∙ sym (length-replicate tenants _);
-    tenants = length-replicate (MOST_CACHES * tenants) _ ∙ ap (λ n. MOST_CACHES * n) (sym (length-replicate tenants _));
+    tenants = length-replicate (MAX_CACHES * tenants) _ ∙ ap (λ n. MAX_CACHES * n) (sym (length-replicate tenants _));
     slots = λ t u. (no_holding t).0 u ∙ sym (no_slot t u);
     slabs = λ machine_frame head key cache placed cached. absurd (some_none (sym placed ∙ none_in (superblocks * 2 ^ order) machine_frame));
   }

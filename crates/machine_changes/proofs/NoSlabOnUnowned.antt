@@ -2,7 +2,7 @@
 use Rattle.std.proofs.Common.{◌≡◌, ℕ, ◌+◌, ◌*◌, ◌/◌, ◌%◌, ◌^◌, ◌<◌, Some, None, length, refl, sym, ap, ◌∙◌, arith}
 use Rattle.std.specs.Prelude.{Option}
 use Rattle.std.proofs.lemmas.Nat.{div-mul-add}
-use Rattle.model_core.specs.declared.limits.TheConstants.{MOST_CACHES}
+use Rattle.model_core.specs.declared.limits.TheConstants.{MAX_CACHES}
 use Rattle.klist_core.specs.Places.{place_at}
 use Rattle.space_core.specs.Content as spaces
 use Rattle.buddy_core.specs.Content as buddies
@@ -29,7 +29,7 @@ module _ (r : spaces.Content) (b : buddies.Content) (s : Content) (h : HoldToget
     pub agreed : IsAgreed r b s n head key cache
     -- the superblock on which this slab begins
     pub superblock : ℕ
-    pub under : spaces.superblock_at r.slots (head / 3 / MOST_CACHES) (key / 2 ^ s.top) ≡ Some superblock
+    pub under : spaces.superblock_at r.slots (head / 3 / MAX_CACHES) (key / 2 ^ s.top) ≡ Some superblock
     pub machine_frame : n ≡ superblock * 2 ^ s.top + key % 2 ^ s.top
     pub is : n / 2 ^ s.top ≡ superblock
 
@@ -37,7 +37,7 @@ module _ (r : spaces.Content) (b : buddies.Content) (s : Content) (h : HoldToget
   slab_there n head key placed =
       let kept = h.slabs.standing n head key placed in
       let agreed : IsAgreed r b s n head key kept.0 = h.agree.slabs n head key kept.0 placed kept.1 in
-      let there = under_is s.top key n (spaces.superblock_at r.slots (head / 3 / MOST_CACHES) (key / 2 ^ s.top)) agreed.under in
+      let there = under_is s.top key n (spaces.superblock_at r.slots (head / 3 / MAX_CACHES) (key / 2 ^ s.top)) agreed.under in
       record {
         cache = kept.0;
         cached = kept.1;
@@ -61,7 +61,7 @@ module _ (r : spaces.Content) (b : buddies.Content) (s : Content) (h : HoldToget
       go (Some p) is =
           let there = slab_there (m * 2 ^ s.top + i) p.0 p.1 is in
           let same : there.superblock ≡ m = sym there.is ∙ div-mul-add m (2 ^ s.top) i less in
-          absurd (is_owned (p.0 / 3 / MOST_CACHES) (p.1 / 2 ^ s.top) m (there.under ∙ ap (λ (x : ℕ). Some x) same) none)
+          absurd (is_owned (p.0 / 3 / MAX_CACHES) (p.1 / 2 ^ s.top) m (there.under ∙ ap (λ (x : ℕ). Some x) same) none)
 
 pub unowned_is_spare : UnownedIsSpare
 unowned_is_spare r b s m h none = record {

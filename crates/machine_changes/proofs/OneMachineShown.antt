@@ -6,7 +6,7 @@ use Rattle.model_core.specs.Blocks.{Block, block}
 use Rattle.model_core.specs.Machine.{Slab, Cache, Machine, slot_of, order_in}
 use Rattle.model_core.specs.Slabs.{cache_of}
 use Rattle.model_core.specs.WellFormed.{RisesFrom}
-use Rattle.model_core.specs.declared.limits.TheConstants.{MOST_CACHES}
+use Rattle.model_core.specs.declared.limits.TheConstants.{MAX_CACHES}
 use Rattle.model_core.specs.Elements.{IsIn}
 use Rattle.model_core.proofs.BlocksApart.{in_block-true}
 use Rattle.model_core.proofs.Lists.{find_in}
@@ -60,7 +60,7 @@ module _ (r : spaces.Content) (s : Content) (t place : ℕ) where
   -- for an entry of a slab list, the number of the tenant's cache that has this list; 0 for None
   number_in : Option (ℕ × ℕ) → ℕ
   number_in None = 0
-  number_in (Some p) = p.0 / 3 - MOST_CACHES * t
+  number_in (Some p) = p.0 / 3 - MAX_CACHES * t
 
   number_is : (c f : ℕ) (o : Option (ℕ × ℕ)) → is_of_cache (index_of_cache t c) f o ≡ true → c ≡ number_in o
   unfolding number_in

@@ -3,7 +3,7 @@ use Rattle.std.proofs.Common.{◌≡◌, ◌≢◌, ℕ, ◌*◌, ◌/◌, true,
 use Rattle.std.specs.Prelude.{Option, is_some, ◌==◌, slice_index_or}
 use Rattle.std.proofs.lemmas.Bool.{cases_eq, cases_lt, eq-eqb, ne_eqb}
 use Rattle.std.proofs.lemmas.List.{length-set, get_or_past}
-use Rattle.model_core.specs.declared.limits.TheConstants.{MOST_CACHES}
+use Rattle.model_core.specs.declared.limits.TheConstants.{MAX_CACHES}
 use Rattle.klist_core.specs.Places.{place_at}
 use Rattle.space_core.specs.Content as spaces
 use Rattle.space_core.specs.Laws.{IsSameFor}
@@ -65,11 +65,11 @@ module _ (r : spaces.Content) (b : buddies.Content) (s : Content) (t : ℕ) (a :
 
   -- the taken block of each slab of each tenant is unchanged
   taken_stays : (machine_frame head key : ℕ) (cache : own.Cache) → place_at s.lists.places machine_frame ≡ Some (head, key) → IsAgreed r b s machine_frame head key cache
-      → (u : ℕ) → head / 3 / MOST_CACHES ≡ u → buddies.taken_of (buddies.holding_of u b') key ≡ buddies.taken_of (buddies.holding_of u b) key
+      → (u : ℕ) → head / 3 / MAX_CACHES ≡ u → buddies.taken_of (buddies.holding_of u b') key ≡ buddies.taken_of (buddies.holding_of u b) key
   taken_stays machine_frame head key cache place x u tenant =
       ⊎_elim
       (λ (same : u ≡ t).
-      let mine : head / 3 / MOST_CACHES ≡ t = tenant ∙ same in
+      let mine : head / 3 / MAX_CACHES ≡ t = tenant ∙ same in
       let has : has_slab s (machine_frame_of s.top r.slots t key) ≡ true =
       ap (λ v. has_slab s (machine_frame_of s.top r.slots v key)) (sym mine) ∙ (ap (has_slab s) x.under ∙ ap is_some place) in
       let taken = subst (λ v. buddies.taken_of (buddies.holding_of v b) key ≡ Some (layout_numbers cache).order) mine x.taken in
@@ -85,13 +85,13 @@ module _ (r : spaces.Content) (b : buddies.Content) (s : Content) (t : ℕ) (a :
     superblocks = a.superblocks;
     machine_frames = a.machine_frames;
     rows = a.rows ∙ sym (length-set b.tenants t h);
-    tenants = a.tenants ∙ ap (λ n. MOST_CACHES * n) (sym (length-set b.tenants t h));
+    tenants = a.tenants ∙ ap (λ n. MAX_CACHES * n) (sym (length-set b.tenants t h));
     slots = λ u v. ap (λ xs. slice_index_or xs v None) (slots_same u) ∙ a.slots u v;
     slabs = λ machine_frame head key cache place cached.
         let x = a.slabs machine_frame head key cache place cached in
         record {
           under = x.under;
-          taken = taken_stays machine_frame head key cache place x (head / 3 / MOST_CACHES) refl ∙ x.taken;
+          taken = taken_stays machine_frame head key cache place x (head / 3 / MAX_CACHES) refl ∙ x.taken;
           counted = x.counted;
           rest = x.rest;
         };

@@ -4,7 +4,7 @@ use Rattle.std.specs.Prelude.{IsSome, is_some, nat_lt, nat_le, ◌&&◌, slice_i
 use Rattle.std.proofs.lemmas.Bool.{false≢true, cases_eq, ltb-true, leb-true, and_parts, false_from_ne_true}
 use Rattle.std.proofs.lemmas.List.{set-get_or}
 use Rattle.std.proofs.lemmas.Option.{slice_get-get_or}
-use Rattle.model_core.specs.declared.limits.TheConstants.{MOST_CACHES}
+use Rattle.model_core.specs.declared.limits.TheConstants.{MAX_CACHES}
 use Rattle.model_core.specs.Layouts.{is_small}
 use Rattle.model_core.specs.Machine.{Machine}
 use Rattle.model_core.specs.Operations.{written}
@@ -148,25 +148,25 @@ module _ (r : spaces.Content) (b : buddies.Content) (s : Content) (t place : ℕ
 
   -- if the parts agree on a slab of small objects, of any tenant, the control record of the slab is unchanged
   agreed_stays : (machine_frame head key : ℕ) (cache : own.Cache) → place_at s.lists.places machine_frame ≡ Some (head, key) → cache_in s.caches (head / 3) ≡ Some cache
-      → IsAgreed r b s machine_frame head key cache → (u : ℕ) → head / 3 / MOST_CACHES ≡ u
+      → IsAgreed r b s machine_frame head key cache → (u : ℕ) → head / 3 / MAX_CACHES ≡ u
       → is_small (layout_numbers cache).chunk ≡ true → (j : ℕ) → j < 32 → record_byte r' u key j ≡ record_byte r u key j
   agreed_stays machine_frame head key cache placed cached x u is small j less =
       ⊎_elim
       (λ (same : u ≡ t).
-      let tenant : head / 3 / MOST_CACHES ≡ t = is ∙ same in
-      let index : head / 3 ≡ index_of_cache t (head / 3 % MOST_CACHES) = omega arith in
-      let q : IsSlab r s t (head / 3 % MOST_CACHES) key machine_frame cache =
-      slab_from r s t (head / 3 % MOST_CACHES) key machine_frame head cache (omega arith) index cached
+      let tenant : head / 3 / MAX_CACHES ≡ t = is ∙ same in
+      let index : head / 3 ≡ index_of_cache t (head / 3 % MAX_CACHES) = omega arith in
+      let q : IsSlab r s t (head / 3 % MAX_CACHES) key machine_frame cache =
+      slab_from r s t (head / 3 % MAX_CACHES) key machine_frame head cache (omega arith) index cached
       (subst (λ v. machine_frame_of s.top r.slots v key ≡ Some machine_frame) tenant x.under) placed in
       subst (λ v. record_byte r' v key j ≡ record_byte r v key j) (sym same)
-      (record_stays (head / 3 % MOST_CACHES) key machine_frame j cache q small less))
+      (record_stays (head / 3 % MAX_CACHES) key machine_frame j cache q small less))
       (λ (other : u ≢ t). ap byte_or_zero ((laws.others.window t place (length new) new u other).bytes (4096 * key + 4064 + j)))
       (cases_eq u t)
 
   agreed_now : (machine_frame head key : ℕ) (cache : own.Cache) → (layout_numbers cache).count ≤ 256 → place_at s.lists.places machine_frame ≡ Some (head, key)
       → cache_in s.caches (head / 3) ≡ Some cache → IsAgreed r b s machine_frame head key cache → IsAgreed r' b s machine_frame head key cache
   agreed_now machine_frame head key cache few placed cached x =
-      let u : ℕ = head / 3 / MOST_CACHES in
+      let u : ℕ = head / 3 / MAX_CACHES in
       let same = agreed_stays machine_frame head key cache placed cached x u refl in
       record {
         under = x.under;

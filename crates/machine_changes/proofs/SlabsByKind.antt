@@ -6,7 +6,7 @@ use Rattle.model_core.specs.Machine.{Slab, Cache, Machine}
 use Rattle.model_core.specs.Slabs.{is_empty, cache_of, slab_of}
 use Rattle.model_core.specs.Elements.{IsIn}
 use Rattle.model_core.proofs.Lists.{find_in}
-use Rattle.model_core.specs.declared.limits.TheConstants.{MOST_CACHES}
+use Rattle.model_core.specs.declared.limits.TheConstants.{MAX_CACHES}
 use Rattle.klist_core.specs.Places.{place_at}
 use Rattle.space_core.specs.Content as spaces
 use Rattle.buddy_core.specs.Content as buddies
@@ -101,9 +101,9 @@ module _ (r : spaces.Content) (b : buddies.Content) (s : Content) (w : IsSlabs s
     pub from_list : (first machine_frame : ℕ) → place_at s.lists.places machine_frame ≡ Some (head_of t c kind, first) → IsOfKind first
     from_list first machine_frame place =
         let head : ℕ = head_of t c kind in
-        let number : c < MOST_CACHES = (in_table s t c (cache_kept r b s t m h c x ex).kept (cache_kept r b s t m h c x ex).cached).number in
+        let number : c < MAX_CACHES = (in_table s t c (cache_kept r b s t m h c x ex).kept (cache_kept r b s t m h c x ex).cached).number in
         let index : head / 3 ≡ index_of_cache t c = index_is (index_of_cache t c) kind less in
-        let tenant : head / 3 / MOST_CACHES ≡ t = tenant_is (head / 3) t c index number in
+        let tenant : head / 3 / MAX_CACHES ≡ t = tenant_is (head / 3) t c index number in
         let kept = w.standing machine_frame head first place in
         let under = subst (λ u. machine_frame_of s.top r.slots u first ≡ Some machine_frame) tenant (a.slabs machine_frame head first kept.0 place kept.1).under in
         let q = slab_from r s t c first machine_frame head kept.0 number index kept.1 under place in

@@ -6,7 +6,7 @@ use Rattle.std.proofs.lemmas.Nat.{div-mul-add}
 use Rattle.std.proofs.Math.Nat.{div-div-eq-div-mul}
 use Rattle.model_core.specs.Machine.{Machine, slot_of}
 use Rattle.model_core.specs.WellFormed.{RisesFrom}
-use Rattle.model_core.specs.declared.limits.TheConstants.{MOST_CACHES}
+use Rattle.model_core.specs.declared.limits.TheConstants.{MAX_CACHES}
 use Rattle.model_core.proofs.RisingLists.{has}
 use Rattle.klist_core.specs.Places.{place_at}
 use Rattle.space_core.specs.Content as spaces
@@ -57,7 +57,7 @@ module _ (r r' : spaces.Content) (b b' : buddies.Content) (s : Content) (t u : �
 
   -- the parts still agree on the tenant's slabs
   pub mine_agreed : IsSlabs s → Agree r b s → (n head key : ℕ) (cache : own.Cache) → place_at s.lists.places n ≡ Some (head, key)
-      → cache_in s.caches (head / 3) ≡ Some cache → head / 3 / MOST_CACHES ≡ t → IsAgreed r' b' s n head key cache
+      → cache_in s.caches (head / 3) ≡ Some cache → head / 3 / MAX_CACHES ≡ t → IsAgreed r' b' s n head key cache
   mine_agreed w a n head key cache placed cached is =
       let agreed : IsAgreed r b s n head key cache = a.slabs n head key cache placed cached in
       let under_key : machine_frame_of s.top r.slots t key ≡ Some n = subst (λ x. machine_frame_of s.top r.slots x key ≡ Some n) is agreed.under in

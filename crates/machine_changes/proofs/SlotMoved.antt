@@ -6,7 +6,7 @@ use Rattle.std.proofs.lemmas.List.{length-set}
 use Rattle.std.proofs.lemmas.Nat.{div-add-mod', mod_below, pow_pos}
 use Rattle.model_core.specs.Machine.{Machine}
 use Rattle.model_core.specs.Owners.{owned_by}
-use Rattle.model_core.specs.declared.limits.TheConstants.{MOST_CACHES}
+use Rattle.model_core.specs.declared.limits.TheConstants.{MAX_CACHES}
 use Rattle.klist_core.specs.Places.{place_at}
 use Rattle.space_core.specs.Content as spaces
 use Rattle.space_core.specs.Changes.{with_move}
@@ -162,7 +162,7 @@ module _ (r : spaces.Content) (b : buddies.Content) (s s' : Content) (t u from t
       }
 
   mine : (n head key : ℕ) (cache : own.Cache) → place_at s'.lists.places n ≡ Some (head, key) → cache_in s'.caches (head / 3) ≡ Some cache
-      → head / 3 / MOST_CACHES ≡ t → IsAgreed r' b' s' n head key cache
+      → head / 3 / MAX_CACHES ≡ t → IsAgreed r' b' s' n head key cache
   mine n head key cache placed cached is =
       let was : WasAt n (head, key) = was_at n (head, key) placed in
       let cached_before : cache_in s.caches (head / 3) ≡ Some cache = sym (ap (λ caches. cache_in caches (head / 3)) k.caches) ∙ cached in
@@ -192,7 +192,7 @@ module _ (r : spaces.Content) (b : buddies.Content) (s s' : Content) (t u from t
           ∙ ap (λ (x : ℕ). Some x) (sym (stays.1 ∙ machine_frame))
 
   -- before the move, each slab of another tenant was at the same machine frame, in the same list
-  placed_before : (n head key : ℕ) → place_at s'.lists.places n ≡ Some (head, key) → (head / 3 / MOST_CACHES ≡ t → ⊥)
+  placed_before : (n head key : ℕ) → place_at s'.lists.places n ≡ Some (head, key) → (head / 3 / MAX_CACHES ≡ t → ⊥)
       → place_at s.lists.places n ≡ Some (head, key)
   placed_before n head key placed differ = go (was_at n (head, key) placed)
     where
@@ -200,7 +200,7 @@ module _ (r : spaces.Content) (b : buddies.Content) (s s' : Content) (t u from t
       go was =
           let there = slab_there r b s h was.machine_frame head key was.placed in
           ⊎_elim
-          (λ moves. absurd (not_from (head / 3 / MOST_CACHES) (key / size) there.superblock there.under (λ both. differ both.0) (sym there.is ∙ moves.0)))
+          (λ moves. absurd (not_from (head / 3 / MAX_CACHES) (key / size) there.superblock there.under (λ both. differ both.0) (sym there.is ∙ moves.0)))
           (λ stays. ap (place_at s.lists.places) stays.1 ∙ was.placed)
           was.superblock
 

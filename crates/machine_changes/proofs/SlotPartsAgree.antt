@@ -3,7 +3,7 @@ use Rattle.std.proofs.Common.{◌≡◌, ◌≢◌, ℕ, ◌+◌, ◌*◌, ◌/�
 use Rattle.std.proofs.lemmas.Bool.{cases_eq}
 use Rattle.std.proofs.lemmas.List.{length-set}
 use Rattle.model_core.specs.Layouts.{is_small}
-use Rattle.model_core.specs.declared.limits.TheConstants.{MOST_CACHES}
+use Rattle.model_core.specs.declared.limits.TheConstants.{MAX_CACHES}
 use Rattle.klist_core.specs.Places.{place_at}
 use Rattle.space_core.specs.Content as spaces
 use Rattle.space_core.specs.Laws.{IsSameFor}
@@ -27,13 +27,13 @@ one_same r r' t cache kept f i same less =
 -- if a slab has the same block, stored state and control record at its new machine frame, the parts still agree on it
 pub agreed_still : (r r' : spaces.Content) (b b' : buddies.Content) (s s' : Content) (machine_frame machine_frame' head key : ℕ) (cache : own.Cache)
     → (layout_numbers cache).count ≤ 256 → IsAgreed r b s machine_frame head key cache
-    → machine_frame_of s'.top r'.slots (head / 3 / MOST_CACHES) key ≡ Some machine_frame'
-    → buddies.taken_of (buddies.holding_of (head / 3 / MOST_CACHES) b') key ≡ buddies.taken_of (buddies.holding_of (head / 3 / MOST_CACHES) b) key
+    → machine_frame_of s'.top r'.slots (head / 3 / MAX_CACHES) key ≡ Some machine_frame'
+    → buddies.taken_of (buddies.holding_of (head / 3 / MAX_CACHES) b') key ≡ buddies.taken_of (buddies.holding_of (head / 3 / MAX_CACHES) b) key
     → kept_at s'.kept machine_frame' ≡ kept_at s.kept machine_frame
-    → ((j : ℕ) → j < 32 → record_byte r' (head / 3 / MOST_CACHES) key j ≡ record_byte r (head / 3 / MOST_CACHES) key j)
+    → ((j : ℕ) → j < 32 → record_byte r' (head / 3 / MAX_CACHES) key j ≡ record_byte r (head / 3 / MAX_CACHES) key j)
     → IsAgreed r' b' s' machine_frame' head key cache
 agreed_still r r' b b' s s' machine_frame machine_frame' head key cache few g under taken kept same =
-    let t : ℕ = head / 3 / MOST_CACHES in
+    let t : ℕ = head / 3 / MAX_CACHES in
     record {
       under = under;
       taken = taken ∙ g.taken;
@@ -55,11 +55,11 @@ pub record IsLocal (r r' : spaces.Content) (b : buddies.Content) (h : buddies.Ho
   pub tables : length s'.caches ≡ length s.caches
   pub others : (u : ℕ) → u ≢ t → Keeps r r' b (buddies.with_holding t h b) s s' u
   pub slots : (u : ℕ) → buddies.superblock_at h u ≡ spaces.superblock_at r'.slots t u
-  pub cached : (i : ℕ) → (i / MOST_CACHES ≡ t → ⊥) → cache_in s'.caches i ≡ cache_in s.caches i
-  pub placed : (n head key : ℕ) → place_at s'.lists.places n ≡ Some (head, key) → (head / 3 / MOST_CACHES ≡ t → ⊥)
+  pub cached : (i : ℕ) → (i / MAX_CACHES ≡ t → ⊥) → cache_in s'.caches i ≡ cache_in s.caches i
+  pub placed : (n head key : ℕ) → place_at s'.lists.places n ≡ Some (head, key) → (head / 3 / MAX_CACHES ≡ t → ⊥)
       → place_at s.lists.places n ≡ Some (head, key)
   pub mine : (n head key : ℕ) (cache : own.Cache) → place_at s'.lists.places n ≡ Some (head, key) → cache_in s'.caches (head / 3) ≡ Some cache
-      → head / 3 / MOST_CACHES ≡ t → IsAgreed r' (buddies.with_holding t h b) s' n head key cache
+      → head / 3 / MAX_CACHES ≡ t → IsAgreed r' (buddies.with_holding t h b) s' n head key cache
 
 module _ (r r' : spaces.Content) (b : buddies.Content) (h : buddies.Holding) (s s' : Content) (t : ℕ) (k : IsLocal r r' b h s s' t)
     (w : IsSlabs s) (a : Agree r b s) (tenant : t < length b.tenants) where
@@ -67,9 +67,9 @@ module _ (r r' : spaces.Content) (b : buddies.Content) (h : buddies.Holding) (s 
   now = buddies.with_holding t h b
 
   other_agreed : (n head key : ℕ) (cache : own.Cache) → place_at s'.lists.places n ≡ Some (head, key) → cache_in s'.caches (head / 3) ≡ Some cache
-      → (head / 3 / MOST_CACHES ≡ t → ⊥) → IsAgreed r' now s' n head key cache
+      → (head / 3 / MAX_CACHES ≡ t → ⊥) → IsAgreed r' now s' n head key cache
   other_agreed n head key cache place cache_now differ =
-      let u : ℕ = head / 3 / MOST_CACHES in
+      let u : ℕ = head / 3 / MAX_CACHES in
       let was : cache_in s.caches (head / 3) ≡ Some cache = sym (k.cached (head / 3) differ) ∙ cache_now in
       let keeps : Keeps r r' b now s s' u = k.others u differ in
       let agreed : IsAgreed r b s n head key cache = a.slabs n head key cache (k.placed n head key place differ) was in
@@ -93,10 +93,10 @@ module _ (r r' : spaces.Content) (b : buddies.Content) (h : buddies.Holding) (s 
     superblocks = k.superblocks ∙ a.superblocks;
     machine_frames = k.machine_frames ∙ a.machine_frames ∙ sym (ap (λ top. b.superblocks * 2 ^ top) k.top);
     rows = k.rows ∙ a.rows ∙ sym (length-set b.tenants t h);
-    tenants = k.tables ∙ a.tenants ∙ ap (λ n. MOST_CACHES * n) (sym (length-set b.tenants t h));
+    tenants = k.tables ∙ a.tenants ∙ ap (λ n. MAX_CACHES * n) (sym (length-set b.tenants t h));
     slots = slots_now;
     slabs = λ n head key cache place cache_now.
-        ⊎_elim (k.mine n head key cache place cache_now) (other_agreed n head key cache place cache_now) (cases_eq (head / 3 / MOST_CACHES) t);
+        ⊎_elim (k.mine n head key cache place cache_now) (other_agreed n head key cache place cache_now) (cases_eq (head / 3 / MAX_CACHES) t);
   }
 
 -- a tenant u other than t keeps everything if its memory and the tables are unchanged, and only the holding of t changes

@@ -5,7 +5,7 @@ use Rattle.std.proofs.lemmas.Bool.{false≢true, eqb-true, eq-eqb, ltb-true, lt-
 use Rattle.std.proofs.lemmas.List.{get_or_past}
 use Rattle.std.proofs.lemmas.Nat.{div-add-mod'}
 use Rattle.model_core.specs.Blocks.{IsSound}
-use Rattle.model_core.specs.declared.limits.TheConstants.{MOST_CACHES}
+use Rattle.model_core.specs.declared.limits.TheConstants.{MAX_CACHES}
 use Rattle.layout_core.specs.Objects.{IsColour}
 use Rattle.klist_core.specs.Places.{place_at}
 use Rattle.space_core.specs.Content as spaces
@@ -24,32 +24,32 @@ use Rattle.machine_changes.proofs.SlabFacts.{superblock_of_machine_frame, frame_
 pub within : {A : Type 0} (xs : List (Option A)) (i : ℕ) (x : A) → slice_index_or xs i None ≡ Some x → i < length xs
 within xs i x e = ⊎_elim (λ less. less) (λ past. absurd (some_none (sym e ∙ get_or_past xs i None past))) (cases_lt i (length xs))
 
--- c is below MOST_CACHES, and the table of caches has this cache at the index of cache c of tenant t
+-- c is below MAX_CACHES, and the table of caches has this cache at the index of cache c of tenant t
 pub record IsInTable (s : Content) (t c : ℕ) (cache : own.Cache) : Type 0 where
-  pub number : c < MOST_CACHES
+  pub number : c < MAX_CACHES
   pub cached : cache_in s.caches (index_of_cache t c) ≡ Some cache
 
 pub in_table : (s : Content) (t c : ℕ) (cache : own.Cache) → cache_at s t c ≡ Some cache → IsInTable s t c cache
-in_table s t c cache e = go (ltb c MOST_CACHES) refl e
+in_table s t c cache e = go (ltb c MAX_CACHES) refl e
   where
-    go : (v : Bool) → ltb c MOST_CACHES ≡ v → cond v (cache_in s.caches (index_of_cache t c)) None ≡ Some cache → IsInTable s t c cache
-    go true less e = record { number = ltb-true c MOST_CACHES less; cached = e }
+    go : (v : Bool) → ltb c MAX_CACHES ≡ v → cond v (cache_in s.caches (index_of_cache t c)) None ≡ Some cache → IsInTable s t c cache
+    go true less e = record { number = ltb-true c MAX_CACHES less; cached = e }
     go false not e = absurd (some_none (sym e))
 
-pub of_table : (s : Content) (t c : ℕ) (cache : own.Cache) → c < MOST_CACHES → cache_in s.caches (index_of_cache t c) ≡ Some cache → cache_at s t c ≡ Some cache
-of_table s t c cache less e = ap (λ v. cond v (cache_in s.caches (index_of_cache t c)) None) (lt-ltb c MOST_CACHES less) ∙ e
+pub of_table : (s : Content) (t c : ℕ) (cache : own.Cache) → c < MAX_CACHES → cache_in s.caches (index_of_cache t c) ≡ Some cache → cache_at s t c ≡ Some cache
+of_table s t c cache less e = ap (λ v. cond v (cache_in s.caches (index_of_cache t c)) None) (lt-ltb c MAX_CACHES less) ∙ e
 
 -- The lists have an entry at machine frame n. Its key is f, and its list `head` is a list of cache c of tenant t.
 pub record IsPlacedAs (s : Content) (t c f n : ℕ) (cache : own.Cache) : Type 0 where
   pub head : ℕ
   pub place : place_at s.lists.places n ≡ Some (head, f)
   pub index : head / 3 ≡ index_of_cache t c
-  pub tenant : head / 3 / MOST_CACHES ≡ t
-  pub number : c < MOST_CACHES
+  pub tenant : head / 3 / MAX_CACHES ≡ t
+  pub number : c < MAX_CACHES
   pub cached : cache_in s.caches (head / 3) ≡ Some cache
 
--- if n is the index of cache c of tenant t, and c is below MOST_CACHES, n / MOST_CACHES is t
-pub tenant_is : (n t c : ℕ) → n ≡ MOST_CACHES * t + c → c < MOST_CACHES → n / MOST_CACHES ≡ t
+-- if n is the index of cache c of tenant t, and c is below MAX_CACHES, n / MAX_CACHES is t
+pub tenant_is : (n t c : ℕ) → n ≡ MAX_CACHES * t + c → c < MAX_CACHES → n / MAX_CACHES ≡ t
 tenant_is n t c e less = omega arith
 
 pub placed_as : (r : spaces.Content) (s : Content) (t c f n : ℕ) (cache : own.Cache) → IsSlab r s t c f n cache → IsPlacedAs s t c f n cache
@@ -73,7 +73,7 @@ placed_as r s t c f n cache q = go (place_at s.lists.places n) refl q.listed
         }
 
 -- if the machine frame of frame f of tenant t has key f in a list of cache c, a slab of cache c begins at f
-pub slab_from : (r : spaces.Content) (s : Content) (t c f n head : ℕ) (cache : own.Cache) → c < MOST_CACHES → head / 3 ≡ index_of_cache t c
+pub slab_from : (r : spaces.Content) (s : Content) (t c f n head : ℕ) (cache : own.Cache) → c < MAX_CACHES → head / 3 ≡ index_of_cache t c
     → cache_in s.caches (head / 3) ≡ Some cache → machine_frame_of s.top r.slots t f ≡ Some n → place_at s.lists.places n ≡ Some (head, f)
     → IsSlab r s t c f n cache
 slab_from r s t c f n head cache less index cached under place = record {
@@ -129,9 +129,9 @@ module _ (r : spaces.Content) (b : buddies.Content) (s : Content) (w : IsSlabs s
       → (c : ℕ) × (cache : own.Cache) × IsSlab r s t c f n cache
   slab_listed t f n head key apart under place =
       let kept = w.standing n head key place in
-      let one = one_owner r s.top t f (head / 3 / MOST_CACHES) key n apart under (a.slabs n head key kept.0 place kept.1).under in
-      let index : head / 3 ≡ index_of_cache t (head / 3 % MOST_CACHES) = let same = one.tenant in omega arith in
-      (head / 3 % MOST_CACHES, kept.0, slab_from r s t (head / 3 % MOST_CACHES) f n head kept.0 (omega arith) index kept.1 under (place ∙ ap (λ (g : ℕ). Some (head, g)) one.frame))
+      let one = one_owner r s.top t f (head / 3 / MAX_CACHES) key n apart under (a.slabs n head key kept.0 place kept.1).under in
+      let index : head / 3 ≡ index_of_cache t (head / 3 % MAX_CACHES) = let same = one.tenant in omega arith in
+      (head / 3 % MAX_CACHES, kept.0, slab_from r s t (head / 3 % MAX_CACHES) f n head kept.0 (omega arith) index kept.1 under (place ∙ ap (λ (g : ℕ). Some (head, g)) one.frame))
 
   module _ (t : ℕ) (lt : t < length r.slots) (apart : IsOneToOne r) (sized : buddies.IsSized b)
       (sound : (u : ℕ) → u < length b.tenants → buddies.IsSoundHolding b.top (buddies.holding_of u b)) where

@@ -3,7 +3,7 @@ use Rattle.std.proofs.Common.{◌≡◌, ◌≢◌, ℕ, ◌*◌, ◌/◌, ◌^�
 use Rattle.std.specs.Prelude.{Option}
 use Rattle.std.proofs.lemmas.Bool.{false≢true, eq-eqb, ne_eqb, cases_lt, le-ltb, lt-ltb}
 use Rattle.model_core.specs.Machine.{empty_machine}
-use Rattle.model_core.specs.declared.limits.TheConstants.{MOST_CACHES}
+use Rattle.model_core.specs.declared.limits.TheConstants.{MAX_CACHES}
 use Rattle.klist_core.specs.Places.{place_at}
 use Rattle.space_core.specs.Content as spaces
 use Rattle.buddy_core.specs.Content as buddies
@@ -20,17 +20,17 @@ use Rattle.machine_changes.proofs.NoSlabOnUnowned.{tenant_of, slab_there}
 use Rattle.machine_changes.proofs.EmptyTenant.{empty_shows, none_in}
 
 -- if only table entries of tenant t changed, any other tenant v has the same cache c as before
-pub same_cache : (s' s : Content) (t v c : ℕ) → ((i : ℕ) → (i / MOST_CACHES ≡ t → ⊥) → cache_in s'.caches i ≡ cache_in s.caches i) → v ≢ t → cache_at s' v c ≡ cache_at s v c
-same_cache s' s t v c stays differ = ⊎_elim below above (cases_lt c MOST_CACHES)
+pub same_cache : (s' s : Content) (t v c : ℕ) → ((i : ℕ) → (i / MAX_CACHES ≡ t → ⊥) → cache_in s'.caches i ≡ cache_in s.caches i) → v ≢ t → cache_at s' v c ≡ cache_at s v c
+same_cache s' s t v c stays differ = ⊎_elim below above (cases_lt c MAX_CACHES)
   where
-    below : c < MOST_CACHES → cache_at s' v c ≡ cache_at s v c
-    below less = ap (λ o. cond (ltb c MOST_CACHES) o None)
-        (stays (index_of_cache v c) (λ e. differ (let is : index_of_cache v c / MOST_CACHES ≡ v = omega arith in sym is ∙ e)))
+    below : c < MAX_CACHES → cache_at s' v c ≡ cache_at s v c
+    below less = ap (λ o. cond (ltb c MAX_CACHES) o None)
+        (stays (index_of_cache v c) (λ e. differ (let is : index_of_cache v c / MAX_CACHES ≡ v = omega arith in sym is ∙ e)))
 
-    above : MOST_CACHES ≤ c → cache_at s' v c ≡ cache_at s v c
+    above : MAX_CACHES ≤ c → cache_at s' v c ≡ cache_at s v c
     above more =
-        ap (λ w. cond w (cache_in s'.caches (index_of_cache v c)) None) (le-ltb c MOST_CACHES more)
-        ∙ sym (ap (λ w. cond w (cache_in s.caches (index_of_cache v c)) None) (le-ltb c MOST_CACHES more))
+        ap (λ w. cond w (cache_in s'.caches (index_of_cache v c)) None) (le-ltb c MAX_CACHES more)
+        ∙ sym (ap (λ w. cond w (cache_in s.caches (index_of_cache v c)) None) (le-ltb c MAX_CACHES more))
 
 -- if `unless_gone` returns a list entry p, it was given p, and the index of p's cache does not satisfy `gone`
 pub unless_some : (gone : ℕ → Bool) (place : Option (ℕ × ℕ)) (p : ℕ × ℕ) → unless_gone gone place ≡ Some p → (place ≡ Some p) × (gone (p.0 / 3) ≡ false)
@@ -51,12 +51,12 @@ module _ (r r' : spaces.Content) (b : buddies.Content) (s s' : Content) (t : ℕ
 
   -- true if i is the index of a cache of tenant t
   abbrev gone : ℕ → Bool
-  gone i = eqb (i / MOST_CACHES) t
+  gone i = eqb (i / MAX_CACHES) t
 
   -- Other tenants
 
-  cache_stays : (i : ℕ) → (i / MOST_CACHES ≡ t → ⊥) → cache_in s'.caches i ≡ cache_in s.caches i
-  cache_stays i differ = k.caches i ∙ ap (λ v. cond v None (cache_in s.caches i)) (ne_eqb (i / MOST_CACHES) t differ)
+  cache_stays : (i : ℕ) → (i / MAX_CACHES ≡ t → ⊥) → cache_in s'.caches i ≡ cache_in s.caches i
+  cache_stays i differ = k.caches i ∙ ap (λ v. cond v None (cache_in s.caches i)) (ne_eqb (i / MAX_CACHES) t differ)
 
   cache_other : (v c : ℕ) → v ≢ t → cache_at s' v c ≡ cache_at s v c
   cache_other v c differ = same_cache s' s t v c cache_stays differ
@@ -68,8 +68,8 @@ module _ (r r' : spaces.Content) (b : buddies.Content) (s s' : Content) (t : ℕ
       go None is = refl
       go (Some p) is =
           let there = slab_there r b s h n p.0 p.1 is in
-          let owner = one_owner r s.top v f (p.0 / 3 / MOST_CACHES) p.1 n h.space.apart under there.agreed.under in
-          ap (λ w. cond w None (Some p)) (ne_eqb (p.0 / 3 / MOST_CACHES) t (λ e. differ (sym owner.tenant ∙ e)))
+          let owner = one_owner r s.top v f (p.0 / 3 / MAX_CACHES) p.1 n h.space.apart under there.agreed.under in
+          ap (λ w. cond w None (Some p)) (ne_eqb (p.0 / 3 / MAX_CACHES) t (λ e. differ (sym owner.tenant ∙ e)))
 
   pub others_kept : (v : ℕ) → v ≢ t → Keeps r r' b b' s s' v
   others_kept v differ = record {
@@ -101,19 +101,19 @@ module _ (r r' : spaces.Content) (b : buddies.Content) (s s' : Content) (t : ℕ
     cached = cache_stays;
     placed = λ n head key placed differ. (was_there n head key placed).0;
     mine = λ n head key cache placed cached is.
-        absurd (false≢true (sym (was_there n head key placed).1 ∙ eq-eqb (head / 3 / MOST_CACHES) t is));
+        absurd (false≢true (sym (was_there n head key placed).1 ∙ eq-eqb (head / 3 / MAX_CACHES) t is));
   }
 
   no_cache : (c : ℕ) → cache_at s' t c ≡ None
-  no_cache c = ⊎_elim below (λ more. ap (λ w. cond w (cache_in s'.caches (index_of_cache t c)) None) (le-ltb c MOST_CACHES more)) (cases_lt c MOST_CACHES)
+  no_cache c = ⊎_elim below (λ more. ap (λ w. cond w (cache_in s'.caches (index_of_cache t c)) None) (le-ltb c MAX_CACHES more)) (cases_lt c MAX_CACHES)
     where
-      none : c < MOST_CACHES → cache_in s'.caches (index_of_cache t c) ≡ None
+      none : c < MAX_CACHES → cache_in s'.caches (index_of_cache t c) ≡ None
       none less =
-          let is : index_of_cache t c / MOST_CACHES ≡ t = omega arith in
-          k.caches (index_of_cache t c) ∙ ap (λ v. cond v None (cache_in s.caches (index_of_cache t c))) (eq-eqb (index_of_cache t c / MOST_CACHES) t is)
+          let is : index_of_cache t c / MAX_CACHES ≡ t = omega arith in
+          k.caches (index_of_cache t c) ∙ ap (λ v. cond v None (cache_in s.caches (index_of_cache t c))) (eq-eqb (index_of_cache t c / MAX_CACHES) t is)
 
-      below : c < MOST_CACHES → cache_at s' t c ≡ None
-      below less = ap (λ w. cond w (cache_in s'.caches (index_of_cache t c)) None) (lt-ltb c MOST_CACHES less) ∙ none less
+      below : c < MAX_CACHES → cache_at s' t c ≡ None
+      below less = ap (λ w. cond w (cache_in s'.caches (index_of_cache t c)) None) (lt-ltb c MAX_CACHES less) ∙ none less
 
   pub emptied : ShowsMachine r' b' s' t empty_machine
   emptied = empty_shows r' b' s' t g.slots

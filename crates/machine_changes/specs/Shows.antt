@@ -1,6 +1,6 @@
 -- Which private machine the memory, the buddy systems and the tables of caches show for a tenant, and when the three agree.
 use Rattle.std.specs.Prelude.{◌≡◌, ℕ, ◌+◌, ◌-◌, ◌*◌, ◌/◌, ◌%◌, ◌^◌, ◌<◌, ◌≤◌, ◌==◌, ◌&&◌, Bool, true, false, if◌then◌else◌, List, [], map, Option, Some, None, is_some, unwrap_or, option_map, length}
-use Rattle.model_core.specs.declared.limits.TheConstants.{FRAME_BYTES, RECORD_OFFSET, MOST_CACHES}
+use Rattle.model_core.specs.declared.limits.TheConstants.{FRAME_BYTES, RECORD_OFFSET, MAX_CACHES}
 use Rattle.model_core.specs.Blocks.{block}
 use Rattle.model_core.specs.Layouts.{is_small, in_object}
 use Rattle.model_core.specs.WellFormed.{RisesFrom}
@@ -103,11 +103,11 @@ pub record ShowsMachine (r : spaces.Content) (b : buddies.Content) (s : Content)
 
 -- the slab at machine frame n is a taken block of its tenant, and has as many live objects as its stored state counts
 pub record IsAgreed (r : spaces.Content) (b : buddies.Content) (s : Content) (n head key : ℕ) (cache : own.Cache) : Type 0 where
-  pub under : machine_frame_of s.top r.slots (head / 3 / MOST_CACHES) key ≡ Some n
-  pub taken : buddies.taken_of (buddies.holding_of (head / 3 / MOST_CACHES) b) key ≡ Some (layout_numbers cache).order
-  pub counted : (kept_at s.kept n).live ≡ count_true (live_of r (head / 3 / MOST_CACHES) cache (kept_at s.kept n) key)
+  pub under : machine_frame_of s.top r.slots (head / 3 / MAX_CACHES) key ≡ Some n
+  pub taken : buddies.taken_of (buddies.holding_of (head / 3 / MAX_CACHES) b) key ≡ Some (layout_numbers cache).order
+  pub counted : (kept_at s.kept n).live ≡ count_true (live_of r (head / 3 / MAX_CACHES) cache (kept_at s.kept n) key)
   -- all bits after the last object's bit are 0, in the control record or in the stored state
-  pub rest : (i : ℕ) → (layout_numbers cache).count ≤ i → i < 256 → is_live r (head / 3 / MOST_CACHES) cache (kept_at s.kept n) key i ≡ false
+  pub rest : (i : ℕ) → (layout_numbers cache).count ≤ i → i < 256 → is_live r (head / 3 / MAX_CACHES) cache (kept_at s.kept n) key i ≡ false
 
 -- the memory, the buddy systems and the tables agree on their sizes, on the superblock in each slot of each tenant, and on each
 -- slab
@@ -117,7 +117,7 @@ pub record Agree (r : spaces.Content) (b : buddies.Content) (s : Content) : Type
   pub superblocks : length r.owners ≡ b.superblocks
   pub machine_frames : length s.lists.places ≡ b.superblocks * 2 ^ s.top
   pub rows : length r.slots ≡ length b.tenants
-  pub tenants : length s.caches ≡ MOST_CACHES * length b.tenants
+  pub tenants : length s.caches ≡ MAX_CACHES * length b.tenants
   pub slots : (t u : ℕ) → buddies.superblock_at (buddies.holding_of t b) u ≡ spaces.superblock_at r.slots t u
   pub slabs : (n head key : ℕ) (cache : own.Cache) → place_at s.lists.places n ≡ Some (head, key)
       → cache_in s.caches (head / 3) ≡ Some cache → IsAgreed r b s n head key cache

@@ -1,7 +1,7 @@
 -- Worked examples of caches and slabs, checked by computation. Slots have 8 frames.
 use Rattle.std.proofs.Common.{◌≡◌, refl, List, [], ◌∷◌, ◌++◌, map, replicate, Some, None, Ok, Err}
 use Rattle.std.specs.List.{range_with_len}
-use Rattle.model_core.specs.declared.limits.TheConstants.{MOST_CACHES}
+use Rattle.model_core.specs.declared.limits.TheConstants.{MAX_CACHES}
 use Rattle.model_core.specs.declared.refusals.ReadRefusal.{ReadRefusal}
 use Rattle.model_core.specs.declared.refusals.CacheRefusal.{CacheRefusal}
 use Rattle.model_core.specs.declared.refusals.TakeRefusal.{TakeRefusal}
@@ -107,22 +107,22 @@ no_frames = refl
 
 -- a tenant has up to 32 caches, with the numbers 0 to 31; the number of a destroyed cache is used again
 abbrev all_caches : List Operation
-all_caches = replicate MOST_CACHES (Create 16 8 (0 ∷ []))
+all_caches = replicate MAX_CACHES (Create 16 8 (0 ∷ []))
 
 cache_numbers : numbers (all_caches ++ (Create 16 8 (0 ∷ []) ∷ Destroy 3 ∷ Create 16 8 (0 ∷ []) ∷ []))
-    ≡ map (λ c. Some c) (range_with_len 0 MOST_CACHES) ++ (None ∷ Some 0 ∷ Some 3 ∷ [])
+    ≡ map (λ c. Some c) (range_with_len 0 MAX_CACHES) ++ (None ∷ Some 0 ∷ Some 3 ∷ [])
 unfolding number_of layout_of cache_step create_step next_number destroy_step destroyed empty_machine
 cache_numbers = refl
 
-no_cache_slot : (cache_step MOST_CACHES 16 8 (0 ∷ []) (machine_after all_caches)).answer ≡ Err CacheRefusal.NoCacheSlot
+no_cache_slot : (cache_step MAX_CACHES 16 8 (0 ∷ []) (machine_after all_caches)).answer ≡ Err CacheRefusal.NoCacheSlot
 unfolding cache_step create_step next_number empty_machine
 no_cache_slot = refl
 
 -- the size is checked before the alignment
-bad_size : (cache_step MOST_CACHES 0 12 (0 ∷ []) empty_machine).answer ≡ Err CacheRefusal.BadSize
+bad_size : (cache_step MAX_CACHES 0 12 (0 ∷ []) empty_machine).answer ≡ Err CacheRefusal.BadSize
 unfolding cache_step create_step
 bad_size = refl
 
-bad_align : (cache_step MOST_CACHES 1 12 (0 ∷ []) empty_machine).answer ≡ Err CacheRefusal.BadAlign
+bad_align : (cache_step MAX_CACHES 1 12 (0 ∷ []) empty_machine).answer ≡ Err CacheRefusal.BadAlign
 unfolding cache_step create_step
 bad_align = refl

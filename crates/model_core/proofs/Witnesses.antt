@@ -4,7 +4,7 @@ use Rattle.std.proofs.Common.{◌≡◌, ℕ, ◌<◌, ◌/◌, Bool, true, List
 use Rattle.std.specs.Prelude.{◌==◌, if◌then◌else◌}
 use Rattle.std.proofs.lemmas.Bool.{eqb-true}
 use Rattle.std.proofs.Math.Bool.{or-false}
-use Rattle.model_core.specs.declared.limits.TheConstants.{MOST_CACHES}
+use Rattle.model_core.specs.declared.limits.TheConstants.{MAX_CACHES}
 use Rattle.model_core.specs.declared.refusals.AllocRefusal.{AllocRefusal}
 use Rattle.model_core.specs.declared.refusals.TakeRefusal.{TakeRefusal}
 use Rattle.model_core.specs.Blocks.{block, HasFrame, IsAligned, Taken, IsTaken, IsSound}
@@ -21,8 +21,8 @@ use Rattle.model_core.proofs.BlockChoice.{choice_is_found}
 use Rattle.model_core.proofs.WellFormedRuns.{runs_well_formed}
 use Rattle.model_core.proofs.RowAnswers.{machine_after}
 
-pub well_formed_left : (operations : List Operation) → ArePossible operations → IsWellFormed MOST_CACHES 3 (machine_after operations)
-well_formed_left operations can = runs_well_formed MOST_CACHES 3 operations can
+pub well_formed_left : (operations : List Operation) → ArePossible operations → IsWellFormed MAX_CACHES 3 (machine_after operations)
+well_formed_left operations can = runs_well_formed MAX_CACHES 3 operations can
 
 -- In `machine`, frame 0 is a slab with a live object, and frame 1 is a page block.
 
@@ -32,7 +32,7 @@ slab_and_page = Grant ∷ Create 100 8 (90 ∷ []) ∷ Take 0 ∷ Alloc 0 ∷ []
 abbrev pub machine : Machine
 machine = machine_after slab_and_page
 
-pub is_well_formed : IsWellFormed MOST_CACHES 3 machine
+pub is_well_formed : IsWellFormed MAX_CACHES 3 machine
 is_well_formed = well_formed_left slab_and_page (tt, (refl, (tt, (tt, tt))))
 
 -- In `emptied`, frame 0 is an empty slab of cache 0. Caches 1 and 2 have no slabs yet; their slabs will have order 3 and order 2.
@@ -43,14 +43,14 @@ slab_given_back = Grant ∷ Create 100 8 (90 ∷ []) ∷ Take 0 ∷ Give 0 0 ∷
 abbrev pub emptied : Machine
 emptied = machine_after slab_given_back
 
-pub emptied_well_formed : IsWellFormed MOST_CACHES 3 emptied
+pub emptied_well_formed : IsWellFormed MAX_CACHES 3 emptied
 emptied_well_formed = well_formed_left slab_given_back (tt, (refl, (tt, (tt, (refl, (refl, tt))))))
 
 -- the machine `emptied` after a take from cache 0, which makes an object of the slab live
 abbrev pub crowded : Machine
 crowded = machine_after (slab_given_back ++ Take 0 ∷ [])
 
-pub crowded_well_formed : IsWellFormed MOST_CACHES 3 crowded
+pub crowded_well_formed : IsWellFormed MAX_CACHES 3 crowded
 crowded_well_formed = well_formed_left (slab_given_back ++ Take 0 ∷ []) (tt, (refl, (tt, (tt, (refl, (refl, (tt, tt)))))))
 
 abbrev cache_of_order_3 : Cache
@@ -122,48 +122,48 @@ RefusalsStay-met law = ((law 3 3 crowded).0, (law 3 1 crowded).1)
 
 -- Well formed machines
 
-KeepsWellFormed-met : KeepsWellFormed → IsWellFormed MOST_CACHES 3 (after MOST_CACHES 3 (Create 64 16 (1 ∷ 2 ∷ [])) machine)
-KeepsWellFormed-met law = law MOST_CACHES 3 (Create 64 16 (1 ∷ 2 ∷ [])) machine refl is_well_formed
+KeepsWellFormed-met : KeepsWellFormed → IsWellFormed MAX_CACHES 3 (after MAX_CACHES 3 (Create 64 16 (1 ∷ 2 ∷ [])) machine)
+KeepsWellFormed-met law = law MAX_CACHES 3 (Create 64 16 (1 ∷ 2 ∷ [])) machine refl is_well_formed
 
-RunsWellFormed-met : RunsWellFormed → IsWellFormed MOST_CACHES 3 machine
-RunsWellFormed-met law = law MOST_CACHES 3 slab_and_page (tt, (refl, (tt, (tt, tt))))
+RunsWellFormed-met : RunsWellFormed → IsWellFormed MAX_CACHES 3 machine
+RunsWellFormed-met law = law MAX_CACHES 3 slab_and_page (tt, (refl, (tt, (tt, tt))))
 
 -- Taken blocks: the page block at frame 1 and the slab at frame 0
 
 TakenApart-met : TakenApart → IsApart (block 1 0) (block 0 0)
 unfolding layout_of alloc_step cache_step create_step next_number take_step grown_cache grown slab_to_use by_need reaped choice taken_blocks empty_machine next_slot after_grant
-TakenApart-met law = law MOST_CACHES 3 machine is_well_formed 0 1 (block 0 0) (omega arith) (omega arith)
+TakenApart-met law = law MAX_CACHES 3 machine is_well_formed 0 1 (block 0 0) (omega arith) (omega arith)
 
 TakenSound-met : TakenSound → IsSound 3 (holds machine) (taken_in machine)
-TakenSound-met law = law MOST_CACHES 3 machine is_well_formed
+TakenSound-met law = law MAX_CACHES 3 machine is_well_formed
 
 -- In `machine`, an alloc of order 1 finds a block at once. In `emptied`, an alloc of order 3 finds one after the empty slab is
 -- freed.
 AllocTakes-met : AllocTakes → (taken_in (alloc_step 3 1 machine).machine 2 ≡ Some 1) × (taken_in (alloc_step 3 3 emptied).machine 0 ≡ Some 3)
 unfolding layout_of alloc_step cache_step create_step next_number take_step give_step grown_cache grown slab_to_use by_need reaped choice taken_blocks empty_machine next_slot after_grant
-AllocTakes-met law = (law MOST_CACHES 3 1 2 machine is_well_formed refl 2, law MOST_CACHES 3 3 0 emptied emptied_well_formed refl 0)
+AllocTakes-met law = (law MAX_CACHES 3 1 2 machine is_well_formed refl 2, law MAX_CACHES 3 3 0 emptied emptied_well_formed refl 0)
 
 FreeReleases-met : FreeReleases → (taken_in (free_step 1 machine).machine 1 ≡ None) × (taken_in (free_step 1 machine).machine 0 ≡ Some 0)
 unfolding layout_of alloc_step free_step cache_step create_step next_number take_step grown_cache grown slab_to_use by_need reaped choice taken_blocks empty_machine next_slot after_grant
-FreeReleases-met law = (law MOST_CACHES 3 1 0 machine is_well_formed refl 1, law MOST_CACHES 3 1 0 machine is_well_formed refl 0)
+FreeReleases-met law = (law MAX_CACHES 3 1 0 machine is_well_formed refl 1, law MAX_CACHES 3 1 0 machine is_well_formed refl 0)
 
 GrowthTakes-met : GrowthTakes → (taken_in (grown 4 cache_of_order_2 emptied) 4 ≡ Some 2) × (taken_in (grown 4 cache_of_order_2 emptied) 0 ≡ Some 0)
 unfolding layout_of cache_step create_step next_number take_step give_step grown_cache grown slab_to_use by_need reaped choice taken_blocks empty_machine next_slot after_grant
 GrowthTakes-met law = (
-  law MOST_CACHES 3 4 cache_of_order_2 emptied emptied_well_formed (2, omega arith, refl) refl 4,
-  law MOST_CACHES 3 4 cache_of_order_2 emptied emptied_well_formed (2, omega arith, refl) refl 0,
+  law MAX_CACHES 3 4 cache_of_order_2 emptied emptied_well_formed (2, omega arith, refl) refl 4,
+  law MAX_CACHES 3 4 cache_of_order_2 emptied emptied_well_formed (2, omega arith, refl) refl 0,
 )
 
 ReapReleases-met : ReapReleases → (taken_in emptied 0 ≡ Some 0) × (taken_in (reaped emptied) 0 ≡ None) × (taken_in (reaped machine) 0 ≡ Some 0)
 unfolding layout_of alloc_step cache_step create_step next_number take_step give_step grown_cache grown slab_to_use by_need reaped choice taken_blocks empty_machine next_slot after_grant
-ReapReleases-met law = (refl, law MOST_CACHES 3 emptied emptied_well_formed 0, law MOST_CACHES 3 machine is_well_formed 0)
+ReapReleases-met law = (refl, law MAX_CACHES 3 emptied emptied_well_formed 0, law MAX_CACHES 3 machine is_well_formed 0)
 
 -- Space for a block
 
 -- two frames are taken and the slot has four blocks of order 1, so there is space for a block of order 1
 BlockIsPromised-met : BlockIsPromised → (first : ℕ) × (choice_by_need 3 1 machine ≡ Some first)
 unfolding layout_of alloc_step cache_step create_step next_number take_step grown_cache grown slab_to_use by_need reaped choice taken_blocks empty_machine next_slot after_grant
-BlockIsPromised-met law = law MOST_CACHES 3 1 machine is_well_formed (record { of_slot = omega arith; fewer = omega arith })
+BlockIsPromised-met law = law MAX_CACHES 3 1 machine is_well_formed (record { of_slot = omega arith; fewer = omega arith })
 
 -- the frame of the empty slab does not count as taken, so there is space for a block of order 3
 all_of_slot : IsAmple 3 3 emptied
@@ -171,8 +171,8 @@ unfolding layout_of cache_step create_step next_number take_step give_step grown
 all_of_slot = record { of_slot = omega arith; fewer = omega arith }
 
 AllocIsPromised-met : AllocIsPromised → (first : ℕ) × ((alloc_step 3 3 emptied).answer ≡ Ok first)
-AllocIsPromised-met law = law MOST_CACHES 3 3 emptied emptied_well_formed all_of_slot
+AllocIsPromised-met law = law MAX_CACHES 3 3 emptied emptied_well_formed all_of_slot
 
 TakeIsPromised-met : TakeIsPromised → (place : ℕ) × ((take_step 3 1 emptied).answer ≡ Ok place)
 unfolding layout_of cache_step create_step next_number take_step give_step grown_cache grown slab_to_use by_need reaped choice taken_blocks empty_machine next_slot after_grant
-TakeIsPromised-met law = law MOST_CACHES 3 1 emptied cache_of_order_3 emptied_well_formed refl all_of_slot
+TakeIsPromised-met law = law MAX_CACHES 3 1 emptied cache_of_order_3 emptied_well_formed refl all_of_slot

@@ -2,7 +2,7 @@
 use Rattle.std.proofs.Common.{◌≡◌, ◌⊎◌, ℕ, zero, suc, ◌/◌, ◌^◌, ◌<◌, ◌≤◌, Bool, true, false, [], ◌∷◌, Some, None, refl, sym, ap, ◌∙◌, inl, inr, arith}
 use Rattle.std.specs.Prelude.{◌==◌, ◌||◌, if◌then◌else◌}
 use Rattle.std.proofs.lemmas.Bool.{eqb-true, eqb-false, or_right, false≢true}
-use Rattle.model_core.specs.declared.limits.TheConstants.{MOST_CACHES}
+use Rattle.model_core.specs.declared.limits.TheConstants.{MAX_CACHES}
 use Rattle.model_core.specs.Blocks.{Block, block, HasFrame, IsAligned, around, buddy, slot_block, Taken, with_taken, without_taken, IsTaken, HasTaken, IsFree, IsChoice, IsWithout, IsSound}
 use Rattle.model_core.specs.BlockLaws.{EachFrameInOne, Splits, Joins, ReservedIsUntaken, ReserveStaysSound, ReleaseStaysSound, GrantStaysSound, TakeBackStaysSound, FreeIsTested, ChoiceIsFound, OneChoice}
 use Rattle.model_core.specs.Layouts.{layout_of}
@@ -27,7 +27,7 @@ abbrev taken : Taken
 taken = taken_in machine
 
 sound : IsSound 3 held taken
-sound = taken_sound MOST_CACHES 3 machine is_well_formed
+sound = taken_sound MAX_CACHES 3 machine is_well_formed
 
 slot_0_below : (u : ℕ) → held u ≡ true → u < 1
 unfolding layout_of alloc_step cache_step create_step next_number take_step grown_cache grown slab_to_use by_need reaped choice taken_blocks empty_machine next_slot after_grant
@@ -83,7 +83,7 @@ abbrev one_frame : Machine
 one_frame = machine_after (Grant ∷ Grant ∷ Alloc 0 ∷ [])
 
 one_sound : IsSound 3 (holds one_frame) (taken_in one_frame)
-one_sound = taken_sound MOST_CACHES 3 one_frame (well_formed_left (Grant ∷ Grant ∷ Alloc 0 ∷ []) (tt, (tt, (tt, tt))))
+one_sound = taken_sound MAX_CACHES 3 one_frame (well_formed_left (Grant ∷ Grant ∷ Alloc 0 ∷ []) (tt, (tt, (tt, tt))))
 
 -- at each order below 3, the block around frame 0 has a free buddy
 up_to_the_slot : (j : ℕ) → j ≤ 3 → (j ≡ 3) ⊎ (IsFree 3 (holds one_frame) (taken_in one_frame) (buddy (around 0 j)) → ⊥) → j ≡ 3

@@ -1,7 +1,7 @@
 -- One instance of each law of objects and bytes: a machine after a few operations meets the law's premises. All slots have order
 -- 3, which is 8 frames.
 use Rattle.std.proofs.Common.{◌≡◌, ℕ, ◌+◌, ◌*◌, ◌<◌, ◌≤◌, Bool, true, false, List, [], ◌∷◌, ◌++◌, map, Some, replicate, refl, sym, ap, ◌∙◌, arith}
-use Rattle.model_core.specs.declared.limits.TheConstants.{MOST_CACHES}
+use Rattle.model_core.specs.declared.limits.TheConstants.{MAX_CACHES}
 use Rattle.model_core.specs.Layouts.{layout_of}
 use Rattle.model_core.specs.Machine.{Slab, Cache, Machine, empty_machine, holds, slot_of, taken_blocks, choice}
 use Rattle.model_core.specs.Slabs.{fresh_byte, grown_cache, grown, slab_to_use, reaped, by_need}
@@ -46,12 +46,12 @@ its_byte = (omega arith, omega arith)
 ObjectsApart-met : ObjectsApart → ((a : Object) → IsObject machine a → HasByte a 203 → a ≡ second_object) × (HasByte first_object 203 → ⊥)
 ObjectsApart-met law =
     let only : (a : Object) → IsObject machine a → HasByte a 203 → a ≡ second_object = λ a there has.
-    law MOST_CACHES 3 machine is_well_formed a second_object there second_is_there 203 has its_byte in
+    law MAX_CACHES 3 machine is_well_formed a second_object there second_is_there 203 has its_byte in
     (only, λ has. absurd (omega (arith, ap (λ o. o.index) (only first_object first_is_there has))))
 
 RecordsFree-met : RecordsFree → (0 ≤ 203) × (203 < 4064)
 unfolding layout_of
-RecordsFree-met law = law MOST_CACHES 3 machine is_well_formed second_object second_is_there refl 203 its_byte
+RecordsFree-met law = law MAX_CACHES 3 machine is_well_formed second_object second_is_there refl 203 its_byte
 
 -- Cache 0 has eight slabs, on all frames of slot 0. All their objects are handed out, one of them is written, and all are given
 -- back. Then a take from cache 1 frees these slabs on demand and makes a slab of cache 1 at frame 0.
@@ -92,7 +92,7 @@ abbrev object_anew : Bool → ℕ → Object
 object_anew second index = record { cache = new_cache_with second; slab = new_slab_with second; index = index }
 
 -- before the new slab is made, the object at place 2048 has been handed out once
-handed_out_before : hand_outs MOST_CACHES 3 2048 eight_slabs empty_machine 0 ≡ 1
+handed_out_before : hand_outs MAX_CACHES 3 2048 eight_slabs empty_machine 0 ≡ 1
 unfolding layout_of cache_step create_step next_number take_step give_step write_step in_reach grown_cache grown slab_to_use fresh_byte by_need reaped choice taken_blocks empty_machine next_slot after_grant
 handed_out_before = refl
 
@@ -105,7 +105,7 @@ written_before = refl
 -- new pattern
 ConstructedFirst-met : ConstructedFirst → (machine_after (eight_slabs ++ Take 1 ∷ [])).bytes (2048 + 0) ≡ Some 22
 unfolding layout_of cache_step create_step next_number take_step give_step write_step in_reach grown_cache grown slab_to_use fresh_byte by_need reaped choice taken_blocks empty_machine next_slot after_grant
-ConstructedFirst-met law = law MOST_CACHES 3 (eight_slabs ++ Take 1 ∷ []) (object_anew false 1) 0 (each_append IsPossible eight_slabs (Take 1 ∷ []) can_be_requested (tt, tt))
+ConstructedFirst-met law = law MAX_CACHES 3 (eight_slabs ++ Take 1 ∷ []) (object_anew false 1) 0 (each_append IsPossible eight_slabs (Take 1 ∷ []) can_be_requested (tt, tt))
     (record { cache_in = (1, omega arith, refl); slab_in = (0, omega arith, refl); index_in = omega arith }) (omega arith) refl
 
 -- The object of the first take, which makes the slab, reads as the new pattern. So does the object of the next take.
@@ -113,9 +113,9 @@ ConstructedWhenTaken-met : ConstructedWhenTaken
     → ((take_step 3 1 anew).machine.bytes (0 + 5) ≡ Some 22) × ((take_step 3 1 (machine_after (eight_slabs ++ Take 1 ∷ []))).machine.bytes (2048 + 0) ≡ Some 22)
 unfolding layout_of cache_step create_step next_number take_step give_step write_step in_reach grown_cache grown slab_to_use fresh_byte by_need reaped choice taken_blocks empty_machine next_slot after_grant
 ConstructedWhenTaken-met law = (
-  law MOST_CACHES 3 1 eight_slabs (object_anew false 0) 5 can_be_requested refl
+  law MAX_CACHES 3 1 eight_slabs (object_anew false 0) 5 can_be_requested refl
       (record { cache_in = (1, omega arith, refl); slab_in = (0, omega arith, refl); index_in = omega arith }) (omega arith) refl,
-  law MOST_CACHES 3 1 (eight_slabs ++ Take 1 ∷ []) (object_anew true 1) 0 (each_append IsPossible eight_slabs (Take 1 ∷ []) can_be_requested (tt, tt)) refl
+  law MAX_CACHES 3 1 (eight_slabs ++ Take 1 ∷ []) (object_anew true 1) 0 (each_append IsPossible eight_slabs (Take 1 ∷ []) can_be_requested (tt, tt)) refl
       (record { cache_in = (1, omega arith, refl); slab_in = (0, omega arith, refl); index_in = omega arith }) (omega arith) refl,
 )
 
@@ -140,15 +140,15 @@ GiveKeeps-met law = law 0 0 machine
 -- after the operation. If the place is in a slab both before and after, or in no slab before and after, the operation leaves the
 -- place alone.
 left_alone : (operation : Operation) (m : Machine) (place : ℕ) (slab : Bool) → writes operation place ≡ false → makes_slab_at 3 operation m place ≡ false
-    → in_slab m place ≡ slab → in_slab (after MOST_CACHES 3 operation m) place ≡ slab
-    → holds m (slot_of 3 place) ≡ true → holds (after MOST_CACHES 3 operation m) (slot_of 3 place) ≡ true → IsLeftAlone MOST_CACHES 3 operation m place
+    → in_slab m place ≡ slab → in_slab (after MAX_CACHES 3 operation m) place ≡ slab
+    → holds m (slot_of 3 place) ≡ true → holds (after MAX_CACHES 3 operation m) (slot_of 3 place) ≡ true → IsLeftAlone MAX_CACHES 3 operation m place
 left_alone operation m place slab unwritten unmade before later held_before held_later =
     record { unwritten = unwritten; unmade = unmade; same_slab = later ∙ sym before; same_slot = held_later ∙ sym held_before }
 
 -- a take makes a slab at frame 4, and the byte at place 3, in the empty slab at frame 0, does not change
-BytesStay-met : BytesStay → (after MOST_CACHES 3 (Take 2) emptied).bytes 3 ≡ emptied.bytes 3
+BytesStay-met : BytesStay → (after MAX_CACHES 3 (Take 2) emptied).bytes 3 ≡ emptied.bytes 3
 unfolding layout_of cache_step create_step next_number take_step give_step grown_cache grown slab_to_use fresh_byte by_need reaped choice taken_blocks empty_machine next_slot after_grant
-BytesStay-met law = law MOST_CACHES 3 (Take 2) emptied 3 emptied_well_formed (left_alone (Take 2) emptied 3 true refl refl refl refl refl refl)
+BytesStay-met law = law MAX_CACHES 3 (Take 2) emptied 3 emptied_well_formed (left_alone (Take 2) emptied 3 true refl refl refl refl refl refl)
 
 -- a byte of a live object and a byte of a page block are written
 abbrev both_written : List Operation
@@ -157,35 +157,35 @@ both_written = slab_and_page ++ (Write 3 (77 ∷ []) ∷ Write 4099 (78 ∷ []) 
 abbrev written : Machine
 written = machine_after both_written
 
-written_well_formed : IsWellFormed MOST_CACHES 3 written
+written_well_formed : IsWellFormed MAX_CACHES 3 written
 written_well_formed = well_formed_left both_written (tt, (refl, (tt, (tt, (tt, (tt, tt))))))
 
 -- the object is given back, the page block is freed, and both are handed out again
 abbrev back_and_forth : List Operation
 back_and_forth = Give 0 0 ∷ Free 1 ∷ Take 0 ∷ Alloc 0 ∷ []
 
-object_left_alone : AllLeaveAlone MOST_CACHES 3 back_and_forth written 3
+object_left_alone : AllLeaveAlone MAX_CACHES 3 back_and_forth written 3
 unfolding layout_of alloc_step free_step cache_step create_step next_number take_step give_step write_step in_reach grown_cache grown slab_to_use fresh_byte by_need reaped choice taken_blocks empty_machine next_slot after_grant
 object_left_alone = (
   left_alone (Give 0 0) written 3 true refl refl refl refl refl refl,
   (
-    left_alone (Free 1) (run MOST_CACHES 3 (Give 0 0 ∷ []) written) 3 true refl refl refl refl refl refl,
+    left_alone (Free 1) (run MAX_CACHES 3 (Give 0 0 ∷ []) written) 3 true refl refl refl refl refl refl,
     (
-      left_alone (Take 0) (run MOST_CACHES 3 (Give 0 0 ∷ Free 1 ∷ []) written) 3 true refl refl refl refl refl refl,
-      (left_alone (Alloc 0) (run MOST_CACHES 3 (Give 0 0 ∷ Free 1 ∷ Take 0 ∷ []) written) 3 true refl refl refl refl refl refl, tt),
+      left_alone (Take 0) (run MAX_CACHES 3 (Give 0 0 ∷ Free 1 ∷ []) written) 3 true refl refl refl refl refl refl,
+      (left_alone (Alloc 0) (run MAX_CACHES 3 (Give 0 0 ∷ Free 1 ∷ Take 0 ∷ []) written) 3 true refl refl refl refl refl refl, tt),
     ),
   ),
 )
 
-page_left_alone : AllLeaveAlone MOST_CACHES 3 back_and_forth written 4099
+page_left_alone : AllLeaveAlone MAX_CACHES 3 back_and_forth written 4099
 unfolding layout_of alloc_step free_step cache_step create_step next_number take_step give_step write_step in_reach grown_cache grown slab_to_use fresh_byte by_need reaped choice taken_blocks empty_machine next_slot after_grant
 page_left_alone = (
   left_alone (Give 0 0) written 4099 false refl refl refl refl refl refl,
   (
-    left_alone (Free 1) (run MOST_CACHES 3 (Give 0 0 ∷ []) written) 4099 false refl refl refl refl refl refl,
+    left_alone (Free 1) (run MAX_CACHES 3 (Give 0 0 ∷ []) written) 4099 false refl refl refl refl refl refl,
     (
-      left_alone (Take 0) (run MOST_CACHES 3 (Give 0 0 ∷ Free 1 ∷ []) written) 4099 false refl refl refl refl refl refl,
-      (left_alone (Alloc 0) (run MOST_CACHES 3 (Give 0 0 ∷ Free 1 ∷ Take 0 ∷ []) written) 4099 false refl refl refl refl refl refl, tt),
+      left_alone (Take 0) (run MAX_CACHES 3 (Give 0 0 ∷ Free 1 ∷ []) written) 4099 false refl refl refl refl refl refl,
+      (left_alone (Alloc 0) (run MAX_CACHES 3 (Give 0 0 ∷ Free 1 ∷ Take 0 ∷ []) written) 4099 false refl refl refl refl refl refl, tt),
     ),
   ),
 )
@@ -198,17 +198,17 @@ written_4099 : written.bytes 4099 ≡ Some 78
 unfolding layout_of alloc_step free_step cache_step create_step next_number take_step give_step write_step in_reach grown_cache grown slab_to_use fresh_byte by_need reaped choice taken_blocks empty_machine next_slot after_grant
 written_4099 = refl
 
-RunsKeepBytes-met : RunsKeepBytes → ((run MOST_CACHES 3 back_and_forth written).bytes 3 ≡ Some 77) × ((run MOST_CACHES 3 back_and_forth written).bytes 4099 ≡ Some 78)
+RunsKeepBytes-met : RunsKeepBytes → ((run MAX_CACHES 3 back_and_forth written).bytes 3 ≡ Some 77) × ((run MAX_CACHES 3 back_and_forth written).bytes 4099 ≡ Some 78)
 RunsKeepBytes-met law = (
-  law MOST_CACHES 3 back_and_forth written 3 (tt, (tt, (tt, (tt, tt)))) written_well_formed object_left_alone ∙ written_3,
-  law MOST_CACHES 3 back_and_forth written 4099 (tt, (tt, (tt, (tt, tt)))) written_well_formed page_left_alone ∙ written_4099,
+  law MAX_CACHES 3 back_and_forth written 3 (tt, (tt, (tt, (tt, tt)))) written_well_formed object_left_alone ∙ written_3,
+  law MAX_CACHES 3 back_and_forth written 4099 (tt, (tt, (tt, (tt, tt)))) written_well_formed page_left_alone ∙ written_4099,
 )
 
 -- a take makes a slab of another cache, and the byte at place 3, in the live object at place 0, does not change
-WritesAlone-met : WritesAlone → (after MOST_CACHES 3 (Take 2) crowded).bytes 3 ≡ crowded.bytes 3
+WritesAlone-met : WritesAlone → (after MAX_CACHES 3 (Take 2) crowded).bytes 3 ≡ crowded.bytes 3
 unfolding layout_of cache_step create_step next_number take_step give_step in_reach grown_cache grown slab_to_use fresh_byte by_need reaped choice taken_blocks empty_machine next_slot after_grant
-WritesAlone-met law = law MOST_CACHES 3 (Take 2) crowded 3 crowded_well_formed refl refl refl
+WritesAlone-met law = law MAX_CACHES 3 (Take 2) crowded 3 crowded_well_formed refl refl refl
 
-SlabsLeaveZeroes-met : SlabsLeaveZeroes → (after MOST_CACHES 3 Reap emptied).bytes 110 ≡ Some 0
+SlabsLeaveZeroes-met : SlabsLeaveZeroes → (after MAX_CACHES 3 Reap emptied).bytes 110 ≡ Some 0
 unfolding layout_of cache_step create_step next_number take_step give_step reap_step grown_cache grown slab_to_use fresh_byte by_need reaped choice taken_blocks empty_machine next_slot after_grant
-SlabsLeaveZeroes-met law = law MOST_CACHES 3 Reap emptied 110 emptied_well_formed refl refl refl
+SlabsLeaveZeroes-met law = law MAX_CACHES 3 Reap emptied 110 emptied_well_formed refl refl refl

@@ -1,11 +1,11 @@
 -- How a slab is cut into objects. Sizes, alignments and offsets are in bytes.
 use Rattle.std.specs.Prelude.{◌≡◌, ℕ, ◌+◌, ◌-◌, ◌*◌, ◌/◌, ◌%◌, ◌^◌, ◌<◌, ◌≤◌, Bool, true, List, [], ◌∷◌, length, max, slice_index, if◌then◌else◌, nat_lt, nat_le, ◌&&◌, ◌==◌}
 use Rattle.std.specs.List.{list_any}
-use Rattle.model_core.specs.declared.limits.TheConstants.{FRAME_BYTES, RECORD_BYTES, RECORD_OFFSET, MOST_SIZE, MOST_PATTERN}
+use Rattle.model_core.specs.declared.limits.TheConstants.{FRAME_BYTES, RECORD_BYTES, RECORD_OFFSET, MAX_SIZE, MAX_PATTERN}
 
 -- objects may have this size
 abbrev pub is_size : ℕ → Bool
-is_size size = nat_le 1 size && nat_le size MOST_SIZE
+is_size size = nat_le 1 size && nat_le size MAX_SIZE
 
 -- objects may have this alignment
 abbrev pub is_alignment : ℕ → Bool
@@ -99,9 +99,9 @@ pub record IsLayout (size align : ℕ) (l : Layout) : Type 0 where
 abbrev pub LayoutsFit : Type 0
 LayoutsFit = (size align : ℕ) → is_size size ≡ true → is_alignment align ≡ true → IsLayout size align (layout_of size align)
 
--- a pattern has 1 to MOST_PATTERN bytes; a constructed object repeats it
+-- a pattern has 1 to MAX_PATTERN bytes; a constructed object repeats it
 abbrev pub is_pattern : List ℕ → Bool
-is_pattern pattern = nat_le 1 (length pattern) && nat_le (length pattern) MOST_PATTERN
+is_pattern pattern = nat_le 1 (length pattern) && nat_le (length pattern) MAX_PATTERN
 
 -- byte j of a constructed object
 abbrev pub pattern_byte : List ℕ → ℕ → ℕ

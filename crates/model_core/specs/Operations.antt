@@ -2,7 +2,7 @@
 -- step leaves the machine unchanged.
 use Rattle.std.specs.Prelude.{ℕ, ◌+◌, ◌^◌, Bool, not, List, length, filter, filter_map, Option, Some, None, Result, Ok, Err, slice_get, if◌then◌else◌, nat_le, nat_lt, ◌&&◌, ◌-◌, ◌==◌}
 use Rattle.std.specs.List.{list_any, range_with_len}
-use Rattle.model_core.specs.declared.limits.TheConstants.{MOST_BYTES}
+use Rattle.model_core.specs.declared.limits.TheConstants.{MAX_BYTES}
 use Rattle.model_core.specs.declared.refusals.AllocRefusal.{AllocRefusal}
 use Rattle.model_core.specs.declared.refusals.ReadRefusal.{ReadRefusal}
 use Rattle.model_core.specs.declared.refusals.TakeBackRefusal.{TakeBackRefusal}
@@ -48,10 +48,10 @@ free_step first m = free_at first m (order_in m.blocks first)
 
 -- Bytes
 
--- reads a range of 1 to MOST_BYTES bytes; refuses any other length, and a range that is not in reach
+-- reads a range of 1 to MAX_BYTES bytes; refuses any other length, and a range that is not in reach
 unfoldable pub read_step : ℕ → ℕ → Machine → Step (Result (List ℕ) ReadRefusal)
 read_step place len m =
-    if not (nat_le 1 len && nat_le len MOST_BYTES) then refuse ReadRefusal.BadLength m
+    if not (nat_le 1 len && nat_le len MAX_BYTES) then refuse ReadRefusal.BadLength m
     else (if not (in_reach m place len) then refuse ReadRefusal.OutOfReach m
     else record { answer = Ok (filter_map m.bytes (range_with_len place len)); machine = m })
 

@@ -2,7 +2,7 @@
 
 ghost use Rattle.std.specs.Prelude.{◌≡◌};
 
-use crate::limits::{LEAST_ORDER, MOST_ORDER, MOST_SUPERBLOCKS, MOST_TENANTS};
+use crate::limits::{MAX_ORDER, MAX_SUPERBLOCKS, MAX_TENANTS, MIN_ORDER};
 
 /// The sizes of a machine.
 #[derive(Clone, Copy, Debug, PartialEq, Eq)]
@@ -22,8 +22,8 @@ impl Config {
     pub fn is_bootable(&self) -> bool
         ensures { result ≡ is_bootable self.now }
     {
-        (u32::from(LEAST_ORDER)..=u32::from(MOST_ORDER)).contains(&self.order)
-            && (1..=u32::from(MOST_SUPERBLOCKS)).contains(&self.superblocks)
-            && (1..=u32::from(MOST_TENANTS)).contains(&self.tenants)
+        (u32::from(MIN_ORDER)..=u32::from(MAX_ORDER)).contains(&self.order)
+            && (1..=u32::from(MAX_SUPERBLOCKS)).contains(&self.superblocks)
+            && (1..=u32::from(MAX_TENANTS)).contains(&self.tenants)
     }
 }

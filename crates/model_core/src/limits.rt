@@ -10,25 +10,25 @@ pub const RECORD_BYTES: u32 = 32;
 pub const RECORD_OFFSET: u32 = 4064;
 
 /// The largest size of an object, in bytes. The least is 1.
-pub const MOST_SIZE: u32 = 4096;
+pub const MAX_SIZE: u32 = 4096;
 
 /// The least order of a superblock, which has `2^order` frames.
-pub const LEAST_ORDER: u8 = 3;
+pub const MIN_ORDER: u8 = 3;
 
 /// The greatest order of a superblock.
-pub const MOST_ORDER: u8 = 8;
+pub const MAX_ORDER: u8 = 8;
 
 /// The largest number of superblocks of a machine. The least is 1.
-pub const MOST_SUPERBLOCKS: u16 = 256;
+pub const MAX_SUPERBLOCKS: u16 = 256;
 
 /// The largest number of tenants of a machine. The least is 1.
-pub const MOST_TENANTS: u8 = 64;
+pub const MAX_TENANTS: u8 = 64;
 
 /// The largest number of caches of a tenant.
-pub const MOST_CACHES: u8 = 32;
+pub const MAX_CACHES: u8 = 32;
 
 /// The largest number of bytes of a read or a write. The least is 1.
-pub const MOST_BYTES: usize = 64;
+pub const MAX_BYTES: usize = 64;
 
 /// The largest number of bytes of a cache's pattern. The least is 1.
-pub const MOST_PATTERN: usize = 16;
+pub const MAX_PATTERN: usize = 16;

@@ -13,7 +13,7 @@ pub enum AllocRefusal {
 /// Why a read is refused, in the order tested.
 #[derive(Clone, Copy, Debug, PartialEq, Eq)]
 pub enum ReadRefusal {
-    /// The number of bytes is 0 or above [`MOST_BYTES`](crate::limits::MOST_BYTES).
+    /// The number of bytes is 0 or above [`MAX_BYTES`](crate::limits::MAX_BYTES).
     BadLength,
     /// The range is not inside one live page block or one live object.
     OutOfReach,

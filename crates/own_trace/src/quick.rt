@@ -17,7 +17,7 @@ ghost use Rattle.own_trace.specs.Keeping.{keeps};
 
 use crate::keeping::push_line;
 use kernel_core::Kernel;
-use model_core::limits::MOST_BYTES;
+use model_core::limits::MAX_BYTES;
 use quick_core::read_ended_request;
 use replay_core::{Drain, Stopped};
 use words_core::Request;
@@ -39,7 +39,7 @@ pub(crate) fn keep_ended_lines<'a, const RETURNS: bool, D: Drain>(
     ensures failed { D.has_failed drain.new ≡ is_err result }
 {
     // The bytes of a write: one buffer for all lines.
-    let mut bytes = [0; MOST_BYTES];
+    let mut bytes = [0; MAX_BYTES];
     let mut rest = piece;
     'lines: while let Some(line) = read_ended_request::<RETURNS>(rest, &mut bytes) {
         let len = line.len;

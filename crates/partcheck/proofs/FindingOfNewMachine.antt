@@ -1,13 +1,13 @@
 -- A finding on a new machine is sound, and its breach is shown.
 use Rattle.std.proofs.Common.{◌≡◌, ℕ, List, ◌++◌, Some, Result, Ok, Err, IfOk, refl, subst, sym}
 use Rattle.model_core.specs.declared.config.Config.{Config}
-use Rattle.model_core.specs.declared.limits.TheConstants.{MOST_CACHES}
+use Rattle.model_core.specs.declared.limits.TheConstants.{MAX_CACHES}
 use Rattle.check_core.specs.declared.finding.Breach.{Breach}
 use Rattle.check_core.specs.declared.finding.Finding.{Finding}
 use Rattle.check_core.specs.declared.finding.Finding.TheVariants.{Kept, Broken}
 use Rattle.check_core.specs.declared.finding.Unchecked.{Unchecked}
 use Rattle.check_core.specs.declared.shown.Shown.{Shown}
-use Rattle.check_core.specs.declared.shown.TheConstants.{MOST_PART_BYTES, MOST_TEXT_BYTES}
+use Rattle.check_core.specs.declared.shown.TheConstants.{MAX_PART_BYTES, MAX_TEXT_BYTES}
 use Rattle.check_core.specs.Checking.{HasRead, ShowsFinding}
 use Rattle.check_core.specs.Finding.{finding_of}
 use Rattle.check_core.specs.Gathered.{Gathers}
@@ -19,8 +19,8 @@ use Rattle.partcheck.specs.Checked.{IsFindingOf, IsSoundFinding, opening_of}
 
 pub sound : KeptIsAllowed → BrokenIsNotAllowed → (config : Config) (finding : Finding) (asked told : List ℕ)
     → finding ≡ finding_of (opening_of config) asked told → IsSoundFinding config finding asked told
-sound kept broken config (Kept lines) asked told is = kept MOST_CACHES config.order config.superblocks config.tenants lines asked told (sym is)
-sound kept broken config (Broken breach) asked told is = broken MOST_CACHES config.order config.superblocks config.tenants asked told breach (sym is)
+sound kept broken config (Kept lines) asked told is = kept MAX_CACHES config.order config.superblocks config.tenants lines asked told (sym is)
+sound kept broken config (Broken breach) asked told is = broken MAX_CACHES config.order config.superblocks config.tenants asked told breach (sym is)
 
 pub finds : KeptIsAllowed → BrokenIsNotAllowed → (config : Config) (finding : Finding) (asked told : List ℕ)
     → finding ≡ finding_of (opening_of config) asked told → IsFindingOf config finding asked told
@@ -49,8 +49,8 @@ still_shown w (Broken breach) asked told old new Also So line_is reply_is follow
   now,
   is,
   record {
-    line = subst (λ text. Gathers MOST_PART_BYTES line text) (sym line_is) read.line;
-    reply = subst (λ text. Gathers MOST_TEXT_BYTES reply text) (sym reply_is) read.reply;
+    line = subst (λ text. Gathers MAX_PART_BYTES line text) (sym line_is) read.line;
+    reply = subst (λ text. Gathers MAX_TEXT_BYTES reply text) (sym reply_is) read.reply;
   },
   follows breach line reply now refl read also,
 )

@@ -1,7 +1,7 @@
 -- The exit status of a check, and the meaning of its finding for a trace and replies.
 use Rattle.std.specs.Prelude.{◌≡◌, ℕ, List, None}
 use Rattle.model_core.specs.declared.config.Config.{Config}
-use Rattle.model_core.specs.declared.limits.TheConstants.{MOST_CACHES}
+use Rattle.model_core.specs.declared.limits.TheConstants.{MAX_CACHES}
 use Rattle.words_core.specs.Cutting.{lines_of_trace}
 use Rattle.promise_core.specs.State.{Known, opening}
 use Rattle.promise_kept.specs.Written.{IsAllowedText}
@@ -22,15 +22,15 @@ status_of_check Checked.Unwritten = 1
 
 -- what is known of a machine of these sizes before the first line
 abbrev pub opening_of : Config → Known
-opening_of config = opening MOST_CACHES config.order config.superblocks config.tenants
+opening_of config = opening MAX_CACHES config.order config.superblocks config.tenants
 
 -- If the finding is `Kept`, the replies are the text of allowed replies to the trace's events. If it is `Broken`, the replies
 -- before the breach are allowed, and the text at the breach does not begin with an allowed reply.
 abbrev pub IsSoundFinding : Config → Finding → (trace replies : List ℕ) → Type 0
 IsSoundFinding config (Finding.Kept lines) trace replies =
-    IsAllowedText None MOST_CACHES config.order config.superblocks config.tenants (lines_of_trace trace) replies
+    IsAllowedText None MAX_CACHES config.order config.superblocks config.tenants (lines_of_trace trace) replies
 IsSoundFinding config (Finding.Broken breach) trace replies =
-    IsBreach MOST_CACHES config.order config.superblocks config.tenants (lines_of_trace trace) replies breach
+    IsBreach MAX_CACHES config.order config.superblocks config.tenants (lines_of_trace trace) replies breach
 
 -- this is the finding for the trace and the replies, and what it says of them is true
 abbrev pub IsFindingOf : Config → Finding → (trace replies : List ℕ) → Type 0

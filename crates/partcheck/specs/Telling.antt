@@ -12,7 +12,7 @@ use Rattle.check_core.specs.Reading.{without_line_feed}
 use Rattle.check_core.specs.declared.finding.Breach.{Breach}
 use Rattle.check_core.specs.declared.finding.Finding.{Finding}
 use Rattle.check_core.specs.declared.shown.Shown.{Shown}
-use Rattle.check_core.specs.declared.shown.TheConstants.{MOST_PART_BYTES, MOST_TEXT_BYTES}
+use Rattle.check_core.specs.declared.shown.TheConstants.{MAX_PART_BYTES, MAX_TEXT_BYTES}
 use Rattle.check_core.specs.declared.taken.TakenFrame.{TakenFrame}
 
 -- the word `one` if the count is 1, and otherwise the word `several`
@@ -116,8 +116,8 @@ reason_text Promise.Still taken = words_of_promise Promise.Still
 -- the line if a reply is not allowed; it shows at most 255 bytes of the line of the trace, and at most 200 bytes of the reply
 unfoldable pub breach_text : Breach → (asked told : List ℕ) → Option TakenFrame → List ℕ
 breach_text breach asked told taken = concat (codes "line " ∷ decimal breach.line ∷ codes ", reply " ∷ decimal breach.reply ∷ codes ": "
-    ∷ excerpt_text (codes "no more lines") 255 (if_read trace_line (take MOST_PART_BYTES asked)) ∷ codes ", answered "
-    ∷ excerpt_text (codes "nothing") 200 (if_read without_line_feed (take MOST_TEXT_BYTES told)) ∷ codes ": " ∷ name_of_promise breach.promise ∷ codes ": "
+    ∷ excerpt_text (codes "no more lines") 255 (if_read trace_line (take MAX_PART_BYTES asked)) ∷ codes ", answered "
+    ∷ excerpt_text (codes "nothing") 200 (if_read without_line_feed (take MAX_TEXT_BYTES told)) ∷ codes ": " ∷ name_of_promise breach.promise ∷ codes ": "
     ∷ reason_text breach.promise taken ∷ codes "\n" ∷ [])
 
 -- the line of a finding was written; for a breach it shows the line of the trace and the reply that `shown` has

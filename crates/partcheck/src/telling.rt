@@ -16,10 +16,10 @@ use promise_core::promise::Promise;
 use std::io::{self, Write};
 
 /// The largest number of bytes of a trace line that are printed. A line with more bytes has the fault `Long`.
-const MOST_LINE_BYTES: usize = 255;
+const MAX_LINE_BYTES: usize = 255;
 
 /// The largest number of bytes of a reply that are printed.
-const MOST_REPLY_BYTES: usize = 200;
+const MAX_REPLY_BYTES: usize = 200;
 
 /// Writes the line of a finding on a machine with this number of tenants, and flushes.
 pub fn write_finding<W: Write>(
@@ -74,10 +74,10 @@ fn write_breach<W: Write>(out: &mut W, breach: &Breach, shown: &Shown) -> io::Re
     } = breach;
     write!(out, "line {line}, reply {reply}: ")?;
     let asked = line_read(shown.line.front());
-    write_shown(out, asked, MOST_LINE_BYTES, "no more lines")?;
+    write_shown(out, asked, MAX_LINE_BYTES, "no more lines")?;
     out.write_all(b", answered ")?;
     let told = lines_read(shown.reply.front());
-    write_shown(out, told, MOST_REPLY_BYTES, "nothing")?;
+    write_shown(out, told, MAX_REPLY_BYTES, "nothing")?;
     write!(out, ": {promise}: ")?;
     write_reason(out, *promise, shown.taken)?;
     out.write_all(b"\n")

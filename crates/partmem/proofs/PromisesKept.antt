@@ -1,7 +1,7 @@
 -- The output of a run keeps the promises.
 use Rattle.std.proofs.Common.{◌≡◌, ℕ, ◌≤◌, nat_le, true, ◌&&◌, List, sym, subst}
 use Rattle.std.proofs.lemmas.Bool.{and_parts, leb-true}
-use Rattle.model_core.specs.declared.limits.TheConstants.{LEAST_ORDER, MOST_ORDER, MOST_SUPERBLOCKS, MOST_TENANTS}
+use Rattle.model_core.specs.declared.limits.TheConstants.{MIN_ORDER, MAX_ORDER, MAX_SUPERBLOCKS, MAX_TENANTS}
 use Rattle.words_core.specs.Cutting.{lines_of_trace}
 use Rattle.world_core.specs.Limits.{cache_limit}
 use Rattle.world_core.specs.Output.{ended_lines}
@@ -18,8 +18,8 @@ use Rattle.partmem.specs.Promised.{AreAllowed, WritesAllowed}
 -- a bootable machine has order 3 or more, so its slots have at least 8 frames
 not_less : (c : Config) → is_bootable c ≡ true → 3 ≤ c.order
 not_less c is =
-    let first = and_parts (is_between LEAST_ORDER MOST_ORDER c.order) (is_between 1 MOST_SUPERBLOCKS c.superblocks && is_between 1 MOST_TENANTS c.tenants) is in
-    leb-true LEAST_ORDER c.order (and_parts (nat_le LEAST_ORDER c.order) (nat_le c.order MOST_ORDER) first.0).0
+    let first = and_parts (is_between MIN_ORDER MAX_ORDER c.order) (is_between 1 MAX_SUPERBLOCKS c.superblocks && is_between 1 MAX_TENANTS c.tenants) is in
+    leb-true MIN_ORDER c.order (and_parts (nat_le MIN_ORDER c.order) (nat_le c.order MAX_ORDER) first.0).0
 
 replies_allowed : (m : MachineOptions) (lines : List (List ℕ)) → is_bootable m.config ≡ true → AreAllowed m lines (shown_replies m lines)
 replies_allowed m lines is =

@@ -26,7 +26,7 @@ use outcome::Ended;
 use own::run_own;
 use replay_core::{NoNotes, Notes, ReaderFeed, Tally, WriterDrain};
 use run::run;
-use run_notes::{MOST_NUMBER, RunNotes};
+use run_notes::{MAX_NUMBER, RunNotes};
 use std::fs::File;
 use std::io::{self, IsTerminal, Read, Write};
 use std::process::ExitCode;
@@ -219,7 +219,7 @@ fn tell_notes(rt: &impl Eprint, notes: &RunNotes, outcome: &Outcome) {
         Outcome::Unwritable => " answered",
         _ => "",
     };
-    for number in 1..=MOST_NUMBER {
+    for number in 1..=MAX_NUMBER {
         if let Some(refused) = notes.told(number) {
             let _unheard = eprintln!(rt; "partmem: {refused}{counted}");
         }

@@ -6,7 +6,7 @@ use Rattle.words_core.specs.declared.event.Command.{Command}
 use Rattle.words_core.specs.declared.event.Event.{Event}
 use Rattle.words_core.specs.declared.reply.Refusal.{Refusal}
 use Rattle.words_core.specs.declared.reply.Reply.{Reply}
-use Rattle.model_core.specs.declared.limits.TheConstants.{FRAME_BYTES, MOST_ORDER, MOST_BYTES}
+use Rattle.model_core.specs.declared.limits.TheConstants.{FRAME_BYTES, MAX_ORDER, MAX_BYTES}
 use Rattle.world_core.specs.Limits.{cache_limit}
 use Rattle.world_core.specs.World.{World, world_step}
 use Rattle.kernel_core.specs.Content.{KernelContent}
@@ -71,9 +71,9 @@ returned_slot kind None = no_slot
 returned_slot kind (Some numbers) =
     if numbers.kind == kind then record { slot = numbers.second; superblock = numbers.third } else no_slot
 
--- the number of bytes in a block of this order; an order above MOST_ORDER counts as MOST_ORDER
+-- the number of bytes in a block of this order; an order above MAX_ORDER counts as MAX_ORDER
 abbrev pub block_bytes : ℕ → ℕ
-block_bytes order = FRAME_BYTES * 2 ^ min order MOST_ORDER
+block_bytes order = FRAME_BYTES * 2 ^ min order MAX_ORDER
 
 abbrev pub made_cache : Option ReplyNumbers → MadeCache
 made_cache None = record { cache = 0; chunk = 0; slab_bytes = 0; objects = 0; colours = 0 }
@@ -102,7 +102,7 @@ pub record ReadsOver (old : KernelContent) (event : Event) (new : KernelContent)
   pub reply : Reply
   pub steps : Steps old event new reply
   pub are : numbers ≡ numbers_of_body reply.body
-  pub few : length (answered_bytes reply.body) ≤ MOST_BYTES
+  pub few : length (answered_bytes reply.body) ≤ MAX_BYTES
   pub over : to' ≡ read_over (answered_bytes reply.body) to
 
 -- the number of bytes that a read into a buffer of `len` bytes requests
@@ -111,7 +111,7 @@ read_length len = min len (2 ^ 32 - 1)
 
 -- whether there are 1 to 64 of these bytes, so that one write can write them
 abbrev pub is_writable : List ℕ → Bool
-is_writable bytes = nat_le 1 (length bytes) && nat_le (length bytes) MOST_BYTES
+is_writable bytes = nat_le 1 (length bytes) && nat_le (length bytes) MAX_BYTES
 
 -- The number of the frame that begins at a place. If no frame begins there, it is a number above that of any frame.
 abbrev pub frame_at_place : ℕ → ℕ

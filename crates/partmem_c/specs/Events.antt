@@ -6,7 +6,7 @@ use Rattle.words_core.specs.declared.reply.Body.{Body}
 use Rattle.words_core.specs.declared.event.Command.{Command}
 use Rattle.words_core.specs.declared.event.Event.{Event}
 use Rattle.words_core.specs.declared.reply.Reply.{Reply}
-use Rattle.model_core.specs.declared.limits.TheConstants.{MOST_BYTES, MOST_PATTERN}
+use Rattle.model_core.specs.declared.limits.TheConstants.{MAX_BYTES, MAX_PATTERN}
 use Rattle.words_core.specs.Texts.{number_of_refusal}
 use Rattle.kernel_core.specs.Content.{KernelContent}
 use Rattle.kernel_core.specs.Steps.{Steps}
@@ -37,8 +37,8 @@ requested_command a bytes =
     if a.kind == request.ALLOC then Some (Command.Alloc a.first)
     else (if a.kind == request.FREE then Some (Command.Free a.first)
     else (if a.kind == request.READ then Some (Command.Read a.first a.second)
-    else (if a.kind == request.WRITE then option_map (Command.Write a.first) (some_bytes MOST_BYTES bytes)
-    else (if a.kind == request.CACHE then option_map (Command.Cache a.first a.second) (some_bytes MOST_PATTERN bytes)
+    else (if a.kind == request.WRITE then option_map (Command.Write a.first) (some_bytes MAX_BYTES bytes)
+    else (if a.kind == request.CACHE then option_map (Command.Cache a.first a.second) (some_bytes MAX_PATTERN bytes)
     else (if a.kind == request.DESTROY then Some (Command.Destroy a.first)
     else (if a.kind == request.TAKE then Some (Command.Take a.first)
     else (if a.kind == request.GIVE then Some (Command.Give a.first a.second)
@@ -116,12 +116,12 @@ abbrev pub status_of_event : Option KernelContent → RequestNumbers → List �
 status_of_event held a bytes status =
     if is_some held then (if is_some (requested_event a bytes) then status else NOT_AN_EVENT) else NO_MACHINE
 
--- the status of a call that also requires a buffer of MOST_BYTES bytes: the first error that applies, or else DONE
+-- the status of a call that also requires a buffer of MAX_BYTES bytes: the first error that applies, or else DONE
 abbrev pub event_status : Option KernelContent → RequestNumbers → List ℕ → List ℕ → ℕ
 event_status held a bytes buffer =
     if not (is_some held) then NO_MACHINE
     else (if is_none (requested_event a bytes) then NOT_AN_EVENT
-    else (if nat_lt (length buffer) MOST_BYTES then BUFFER_TOO_SMALL else DONE))
+    else (if nat_lt (length buffer) MAX_BYTES then BUFFER_TOO_SMALL else DONE))
 
 -- The kernel ran the event, and `numbers` are the numbers of its reply. The bytes of the reply are at the front of `buffer'`, and
 -- the rest of the buffer is unchanged.

@@ -12,7 +12,7 @@ use crate::machine_storage::MachineStorage;
 use crate::status::DONE;
 use crate::telling::{ReplyNumbers, bytes_in_reply, numbers_of_answer};
 use kernel_core::Kernel;
-use model_core::limits::MOST_BYTES;
+use model_core::limits::MAX_BYTES;
 use std::alloc::Global;
 use words_core::{Answer, Refusal, Request};
 
@@ -29,7 +29,7 @@ pub extern "C" fn partmem_read(
 ) -> u32
     ensures read { RunsCall machine.old.slot.held (Tenant tenant (Read place (read_length (length to.old)))) machine.new.slot.held
         (λ reply. (result ≡ call_status (numbers_in_reply reply)) × (to.new ≡ read_over (bytes_in_reply reply) to.old)) }
-    ensures few { drop MOST_BYTES to.new ≡ drop MOST_BYTES to.old }
+    ensures few { drop MAX_BYTES to.new ≡ drop MAX_BYTES to.old }
     ensures not_done { result ≢ DONE → to.new ≡ to.old }
 {
     let Some(kernel) = machine.kernel() else {
@@ -87,7 +87,7 @@ pub extern "C" fn partmem_write(
         (λ reply. result ≡ call_status (numbers_in_reply reply)) }
     ensures bad_length { is_writable from.now ≡ false → IsNoEvent machine.old.slot.held machine.new.slot.held result }
 {
-    if !(1..=MOST_BYTES).contains(&from.len()) {
+    if !(1..=MAX_BYTES).contains(&from.len()) {
         return status_of_none(machine);
     }
     let request = Request::Write { place, bytes: from };

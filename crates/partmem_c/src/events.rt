@@ -20,7 +20,7 @@ use crate::telling::{
 };
 use arrayvec::ArrayVec;
 use kernel_core::Kernel;
-use model_core::limits::{MOST_BYTES, MOST_PATTERN};
+use model_core::limits::{MAX_BYTES, MAX_PATTERN};
 use std::alloc::Global;
 use words_core::{AdminCommand, Answer, Command, Event, Refusal, Request};
 
@@ -76,8 +76,8 @@ pub fn is_event(request: &RequestNumbers, bytes: &[u8]) -> bool
     ensures { result ≡ is_some (requested_event request.now bytes.now) }
 {
     match request.kind {
-        WRITE => (1..=MOST_BYTES).contains(&bytes.len()),
-        CACHE => (1..=MOST_PATTERN).contains(&bytes.len()),
+        WRITE => (1..=MAX_BYTES).contains(&bytes.len()),
+        CACHE => (1..=MAX_PATTERN).contains(&bytes.len()),
         kind => (GRANT..=REPORT).contains(&kind),
     }
 }
@@ -168,7 +168,7 @@ fn some_bytes<const N: usize>(bytes: &[u8]) -> Option<ArrayVec<u8, N>>
 /// Runs the event with these numbers, and stores its reply as numbers in `reply`. `bytes` are the bytes of a write or the pattern
 /// of a new cache; no other event uses them.
 ///
-/// The bytes of a read are copied to the front of `buffer`. For every event, the buffer must have at least `MOST_BYTES` bytes.
+/// The bytes of a read are copied to the front of `buffer`. For every event, the buffer must have at least `MAX_BYTES` bytes.
 /// The status of a refused event is `DONE`, and its reply is the refusal.
 ///
 /// Fails with `NO_MACHINE`, `NOT_AN_EVENT` or `BUFFER_TOO_SMALL`. The reply and the buffer are then unchanged.
@@ -204,10 +204,10 @@ pub extern "C" fn partmem_event(
 #[inline(always)]
 fn kind_with_buffer(kind: u32, buffer: usize) -> u32
     ensures same { result ≢ NOTHING → result ≡ kind }
-    ensures wide { result ≢ NOTHING → MOST_BYTES ≤ buffer }
-    ensures short { result ≡ NOTHING → kind ≢ NOTHING → buffer < MOST_BYTES }
+    ensures wide { result ≢ NOTHING → MAX_BYTES ≤ buffer }
+    ensures short { result ≡ NOTHING → kind ≢ NOTHING → buffer < MAX_BYTES }
 {
-    if buffer < MOST_BYTES { NOTHING } else { kind }
+    if buffer < MAX_BYTES { NOTHING } else { kind }
 }
 
 /// Returns the status of a call whose buffer is too small, or whose kind is `NOTHING`.
@@ -295,7 +295,7 @@ fn ask(
     DONE
 }
 
-/// Calls [`other_event`] with the first `MOST_BYTES` bytes of the buffer, so the buffer's length need not be passed.
+/// Calls [`other_event`] with the first `MAX_BYTES` bytes of the buffer, so the buffer's length need not be passed.
 #[inline(always)]
 fn event_in_first(
     alloc: Global,
@@ -305,7 +305,7 @@ fn event_in_first(
     reply: &mut ReplyNumbers,
     buffer: &mut [u8],
 ) -> u32
-    requires buffer { MOST_BYTES ≤ length buffer.old }
+    requires buffer { MAX_BYTES ≤ length buffer.old }
     ensures status { result ≡ status_of_event machine.old.slot.held request.now bytes.now DONE }
     ensures done { result ≡ DONE
         → RunsEvent machine.old.slot.held machine.new.slot.held request.now bytes.now reply.new buffer.old buffer.new }
@@ -318,7 +318,7 @@ fn event_in_first(
         request,
         bytes,
         reply,
-        &mut buffer[..MOST_BYTES],
+        &mut buffer[..MAX_BYTES],
     )
 }
 
@@ -332,7 +332,7 @@ fn other_event(
     reply: &mut ReplyNumbers,
     buffer: &mut [u8],
 ) -> u32
-    requires buffer { MOST_BYTES ≤ length buffer.old }
+    requires buffer { MAX_BYTES ≤ length buffer.old }
     ensures status { result ≡ status_of_event machine.old.slot.held request.now bytes.now DONE }
     ensures done { result ≡ DONE
         → RunsEvent machine.old.slot.held machine.new.slot.held request.now bytes.now reply.new buffer.old buffer.new }
@@ -358,7 +358,7 @@ fn read_event(
     buffer: &mut [u8],
 ) -> u32
     requires kind { request.now.kind ≡ READ }
-    requires buffer { MOST_BYTES ≤ length buffer.old }
+    requires buffer { MAX_BYTES ≤ length buffer.old }
     ensures status { result ≡ machine_status machine.old.slot.held }
     ensures done { result ≡ DONE → (bytes : List ℕ)
         → RunsEvent machine.old.slot.held machine.new.slot.held request.now bytes reply.new buffer.old buffer.new }
@@ -390,7 +390,7 @@ fn write_event(
         → RunsEvent machine.old.slot.held machine.new.slot.held request.now bytes.now reply.new buffer buffer }
     ensures not_done { result ≢ DONE → IsNothingDone machine.old.slot.held machine.new.slot.held reply.old reply.new }
 {
-    if !(1..=MOST_BYTES).contains(&bytes.len()) {
+    if !(1..=MAX_BYTES).contains(&bytes.len()) {
         return status_of_none(machine);
     }
     let place = request.first;
@@ -418,7 +418,7 @@ fn cache_event(
         → RunsEvent machine.old.slot.held machine.new.slot.held request.now bytes.now reply.new buffer buffer }
     ensures not_done { result ≢ DONE → IsNothingDone machine.old.slot.held machine.new.slot.held reply.old reply.new }
 {
-    if !(1..=MOST_PATTERN).contains(&bytes.len()) {
+    if !(1..=MAX_PATTERN).contains(&bytes.len()) {
         return status_of_none(machine);
     }
     let command = Request::Cache {
@@ -451,7 +451,7 @@ fn rare_event(
     reply: &mut ReplyNumbers,
     buffer: &mut [u8],
 ) -> u32
-    requires buffer { MOST_BYTES ≤ length buffer.old }
+    requires buffer { MAX_BYTES ≤ length buffer.old }
     ensures status { result ≡ status_of_event machine.old.slot.held request.now bytes.now DONE }
     ensures done { result ≡ DONE
         → RunsEvent machine.old.slot.held machine.new.slot.held request.now bytes.now reply.new buffer.old buffer.new }
@@ -471,7 +471,7 @@ fn rare_event(
 /// Runs an event, copies the bytes of its reply to the front of `buffer`, and returns the reply as numbers.
 fn step(kernel: &mut Kernel, event: &Event, buffer: &mut [u8]) -> ReplyNumbers
     requires pattern { HasPattern event.now }
-    requires buffer { MOST_BYTES ≤ length buffer.old }
+    requires buffer { MAX_BYTES ≤ length buffer.old }
     ensures { AnswersEvent kernel.old event.now kernel.new result buffer.old buffer.new }
 {
     match event {
@@ -527,7 +527,7 @@ fn run_over(
     buffer: &mut [u8],
 ) -> ReplyNumbers
     requires askable { IsAskable command }
-    requires buffer { MOST_BYTES ≤ length buffer.old }
+    requires buffer { MAX_BYTES ≤ length buffer.old }
     ensures { AnswersEvent kernel.old (Tenant tenant (command_of command.entry)) kernel.new result buffer.old buffer.new }
 {
     match kernel.ask(tenant, command) {

@@ -18,22 +18,21 @@ ghost use Rattle.partmem_c.specs.Lines.{AnswersWhole, AnswersOrNot, RunsLine};
 use crate::machine_storage::MachineStorage;
 use crate::status::{BUFFER_TOO_SMALL, DONE, NO_MACHINE, NOT_A_LINE};
 use kernel_core::Kernel;
-use model_core::limits::MOST_BYTES;
+use model_core::limits::MAX_BYTES;
 use quick_core::{WINDOW, read_request};
 use std::alloc::Global;
 use words_core::{
-    Addressee, AdminCommand, Answer, Event, LineFault, MOST_ANSWER_BYTES, MOST_REPLY_BYTES,
-    MOST_ROWS, Refusal, Request, SHORT_ANSWER_BYTES, Table, read_line, write_answer,
-    write_answer_to,
+    Addressee, AdminCommand, Answer, Event, LineFault, MAX_ANSWER_BYTES, MAX_REPLY_BYTES, MAX_ROWS,
+    Refusal, Request, SHORT_ANSWER_BYTES, Table, read_line, write_answer, write_answer_to,
 };
 
 /// An upper bound on the number of bytes in the reply to a line. The longest reply is the table of owners.
-pub const MOST_TEXT_BYTES: usize = MOST_ROWS * MOST_REPLY_BYTES;
+pub const LINE_BUFFER_BYTES: usize = MAX_ROWS * MAX_REPLY_BYTES;
 
 /// Runs a line of a trace, and writes its reply lines to the front of `buffer`. Sets `written` to the number of bytes in these
 /// lines, or to 0 if the status is not `DONE`.
 ///
-/// The line is passed without its line feed. The reply to a faulty line names the fault. A buffer of `MOST_TEXT_BYTES` bytes is
+/// The line is passed without its line feed. The reply to a faulty line names the fault. A buffer of `LINE_BUFFER_BYTES` bytes is
 /// large enough for any line.
 ///
 /// Fails with `NO_MACHINE`, `NOT_A_LINE` or `BUFFER_TOO_SMALL`. The machine and the buffer are then unchanged.
@@ -55,7 +54,7 @@ pub extern "C" fn partmem_line(
     let Some(kernel) = machine.kernel() else {
         return NO_MACHINE;
     };
-    if buffer.len() < MOST_TEXT_BYTES {
+    if buffer.len() < LINE_BUFFER_BYTES {
         return status_without_buffer(line);
     }
     let Some(count) = run_line(kernel, line, buffer) else {
@@ -81,7 +80,7 @@ fn status_without_buffer(line: &[u8]) -> u32
 
 /// The size of a buffer for a frequent line with its line feed. The longest is a write: a tenant, a word, a place, and bytes in
 /// hex.
-const MOST_SHORT_LINE: usize = 160;
+const MAX_SHORT_LINE: usize = 160;
 
 /// Runs a line on the kernel, writes the answer to the front of `buffer`, and returns the number of the answer's bytes. Returns
 /// `None` and does nothing if the line has a line feed.
@@ -100,7 +99,7 @@ fn run_line(kernel: &mut Kernel, line: &[u8], buffer: &mut [u8]) -> Option<usize
     }
     let mut ended = [0; WINDOW];
     put_ended(line, &mut ended);
-    let mut bytes = [0; MOST_BYTES];
+    let mut bytes = [0; MAX_BYTES];
     if let Some(read) = read_request(&ended, &mut bytes) {
         if read.len == line.len() + 1 {
             return Some(answer_request(read.tenant, read.request, kernel, buffer));
@@ -117,12 +116,12 @@ fn run_long(kernel: &mut Kernel, line: &[u8], buffer: &mut [u8]) -> Option<usize
     ensures { MatchOption result ((kernel.new ≡ kernel.old) × (buffer.new ≡ buffer.old))
         (λ written. AnswersWhole kernel.old line.now buffer.old kernel.new buffer.new written) }
 {
-    if line.len() >= MOST_SHORT_LINE {
+    if line.len() >= MAX_SHORT_LINE {
         return None;
     }
-    let mut ended = [0; MOST_SHORT_LINE];
+    let mut ended = [0; MAX_SHORT_LINE];
     put_ended(line, &mut ended);
-    let mut bytes = [0; MOST_BYTES];
+    let mut bytes = [0; MAX_BYTES];
     let read = read_request(&ended, &mut bytes)?;
     if read.len != line.len() + 1 {
         return None;
@@ -271,7 +270,7 @@ fn put_long_answer(addressee: Addressee, answer: Answer<'_>, buffer: &mut [u8]) 
     requires buffer { IsWide buffer.old }
     ensures { IsTextWritten (text_of (reply_to addressee answer.entry)) buffer.old buffer.new result }
 {
-    let mut text = [0; MOST_ANSWER_BYTES];
+    let mut text = [0; MAX_ANSWER_BYTES];
     let len = write_answer_to(addressee, answer, &mut text);
     put(&text[..len], buffer, 0);
     len
@@ -361,7 +360,7 @@ fn put_table(table: Table<'_>, buffer: &mut [u8]) -> usize
     requires buffer { IsWide buffer.old }
     ensures { IsTextWritten (text_of (reply_of_table table.entry)) buffer.old buffer.new result }
 {
-    let mut line = [0; MOST_REPLY_BYTES];
+    let mut line = [0; MAX_REPLY_BYTES];
     let mut written = 0;
     for row in 0..table.rows() {
         let len = table.write_row(row, &mut line);

@@ -16,7 +16,7 @@ use crate::machine_storage::MachineStorage;
 use crate::status::{DONE, NO_MACHINE};
 use crate::telling::ReplyNumbers;
 use kernel_core::Kernel;
-use model_core::limits::MOST_PATTERN;
+use model_core::limits::MAX_PATTERN;
 use std::alloc::Global;
 use words_core::{Refusal, Request};
 
@@ -61,7 +61,7 @@ pub extern "C" fn partmem_make_cache(
     ensures bad_pattern { is_pattern pattern.now ≡ false
         → IsNoEvent machine.old.slot.held machine.new.slot.held result × (made.new ≡ made_cache None) }
 {
-    if !(1..=MOST_PATTERN).contains(&pattern.len()) {
+    if !(1..=MAX_PATTERN).contains(&pattern.len()) {
         *made = NO_CACHE;
         return status_of_none(machine);
     }

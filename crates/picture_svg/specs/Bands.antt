@@ -1,7 +1,7 @@
 -- The text of a tenant's band: its title and figures, its rows, its refusals and its free frames.
 use Rattle.std.specs.Prelude.{◌≡◌, ℕ, ◌+◌, ◌-◌, ◌<◌, ◌≤◌, List, [], ◌∷◌, Some, SomeIndex, length, slice_get, slice_index_or}
 use Rattle.std.specs.List.{concat}
-use Rattle.frame_picture.specs.declared.drawing.TheConstants.{MOST_ROWS}
+use Rattle.frame_picture.specs.declared.drawing.TheConstants.{MAX_ROWS}
 use Rattle.frame_picture.specs.declared.drawing.Tone.{Tone}
 use Rattle.frame_picture.specs.declared.grid.Grid.{Grid}
 use Rattle.frame_picture.specs.declared.history.Column.{Column}
@@ -35,7 +35,7 @@ pub record AreCellsOf (columns : List Column) (t : ℕ) (grid : Grid) (cells : L
   pub few : length cells ≤ length columns
   pub each : (at row : ℕ) (column : Column) (tones : List Tone) → slice_get columns at ≡ Some column → slice_get cells at
       ≡ Some tones
-      → row < MOST_ROWS → row < grid.rows → IsRowTone column t grid row (slice_index_or tones row not_held)
+      → row < MAX_ROWS → row < grid.rows → IsRowTone column t grid row (slice_index_or tones row not_held)
 
 -- the y coordinate at which the rows end, in a band that begins at the y coordinate `top`
 abbrev pub foot_of : Grid → ℕ → ℕ

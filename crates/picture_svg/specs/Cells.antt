@@ -3,7 +3,7 @@
 use Rattle.std.specs.Prelude.{◌≡◌, ℕ, ◌==◌, ◌||◌, Bool, if◌then◌else◌, nat_lt, min, List, [], ◌∷◌, ◌++◌, codes, decimal, flat_map, filter, length}
 use Rattle.std.specs.List.{AllZip, concat}
 use Rattle.kernel_core.specs.declared.frames.FrameKind.{FrameKind}
-use Rattle.frame_picture.specs.declared.drawing.TheConstants.{MOST_ROWS}
+use Rattle.frame_picture.specs.declared.drawing.TheConstants.{MAX_ROWS}
 use Rattle.frame_picture.specs.declared.drawing.Tone.{Tone}
 use Rattle.frame_picture.specs.declared.grid.Grid.{Grid}
 use Rattle.frame_picture.specs.declared.kinds.TheConstants.{ALL}
@@ -23,9 +23,9 @@ class_of FrameKind.Full = codes "full"
 class_of FrameKind.Partial = codes "partial"
 class_of FrameKind.Empty = codes "empty"
 
--- the number of rows that are drawn: all rows of the grid, but at most MOST_ROWS
+-- the number of rows that are drawn: all rows of the grid, but at most MAX_ROWS
 abbrev pub drawn_rows : Grid → ℕ
-drawn_rows grid = min MOST_ROWS grid.rows
+drawn_rows grid = min MAX_ROWS grid.rows
 
 -- the text is a path of rectangles that together contain exactly the cells of this tone
 pub record IsTonePath (columns : List (List Tone)) (rows : ℕ) (tone : Tone) (shade text : List ℕ) : Type 0 where

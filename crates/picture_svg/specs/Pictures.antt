@@ -1,7 +1,7 @@
 -- The text of a whole picture.
 use Rattle.std.specs.Prelude.{◌≡◌, ℕ, ◌+◌, ◌-◌, ◌*◌, ◌/◌, ◌^◌, max, min, List, [], ◌∷◌, ◌++◌, Option, codes, fold, length, map, vec_len}
 use Rattle.std.specs.List.{concat}
-use Rattle.frame_picture.specs.declared.drawing.TheConstants.{MOST_ROWS}
+use Rattle.frame_picture.specs.declared.drawing.TheConstants.{MAX_ROWS}
 use Rattle.frame_picture.specs.declared.drawing.Tone.{Tone}
 use Rattle.frame_picture.specs.declared.grid.Grid.{Grid}
 use Rattle.frame_picture.specs.declared.history.History.{History}
@@ -42,7 +42,7 @@ pub record IsSamePicture (old new : Picture) : Type 0 where
 
 -- the largest number of rows in a band, if there are this many bands
 abbrev pub most_rows_of : ℕ → ℕ
-most_rows_of bands = TALL_BANDS * MOST_ROWS / max bands TALL_BANDS
+most_rows_of bands = TALL_BANDS * MAX_ROWS / max bands TALL_BANDS
 
 -- the y coordinate at which the last band ends, if the bands have these numbers of rows and the first band begins at `top`
 abbrev pub bottom_of : ℕ → List ℕ → ℕ

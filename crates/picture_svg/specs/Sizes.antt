@@ -1,6 +1,6 @@
 -- The heights and y coordinates of the parts of a picture, in pixels. A value above 2^32 - 1 becomes 2^32 - 1.
 use Rattle.std.specs.Prelude.{ℕ, ◌+◌, ◌-◌, ◌*◌, ◌/◌, ◌^◌, max, min}
-use Rattle.picture_svg.specs.declared.svg.TheConstants.{ABOVE, BELOW, ROWS_HEIGHT, MOST_ROW_HEIGHT}
+use Rattle.picture_svg.specs.declared.svg.TheConstants.{ABOVE, BELOW, ROWS_HEIGHT, MAX_ROW_HEIGHT}
 
 -- the y coordinate that is this number of pixels below y
 abbrev pub lower : ℕ → ℕ → ℕ
@@ -8,7 +8,7 @@ lower y pixels = min (y + pixels) (2 ^ 32 - 1)
 
 -- the height of a row if there are this many rows
 abbrev pub row_height : ℕ → ℕ
-row_height rows = max 1 (min (ROWS_HEIGHT / rows) MOST_ROW_HEIGHT)
+row_height rows = max 1 (min (ROWS_HEIGHT / rows) MAX_ROW_HEIGHT)
 
 -- the height of all rows together
 abbrev pub rows_height : ℕ → ℕ

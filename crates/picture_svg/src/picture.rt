@@ -7,7 +7,7 @@ ghost use Rattle.picture_svg.specs.Pictures.{drawn_tenants, end_of_tenants, firs
 ghost use Rattle.picture_svg.specs.Texts.{WritesText};
 
 use crate::svg::{HEAD, band_height, draw_band, draw_head, draw_opening};
-use frame_picture::drawing::{MOST_ROWS, Tone, set_cells};
+use frame_picture::drawing::{MAX_ROWS, Tone, set_cells};
 use frame_picture::grid::Grid;
 use frame_picture::history::History;
 use std::alloc::{AllocError, Global};
@@ -23,7 +23,7 @@ pub struct Picture {
     /// The number of the first tenant that is drawn, and the number of the last one plus 1.
     first: u8,
     end: u8,
-    cells: Vec<[Tone; MOST_ROWS]>,
+    cells: Vec<[Tone; MAX_ROWS]>,
     /// The number of pixels by which the word `refused` is moved down, away from the lowest number of the axis.
     label_gap: u32,
 }
@@ -46,7 +46,7 @@ impl Picture {
         Ok(Picture {
             first,
             end,
-            cells: vec![in alloc; [Tone::NOT_HELD; MOST_ROWS]; history.most_columns()]?,
+            cells: vec![in alloc; [Tone::NOT_HELD; MAX_ROWS]; history.most_columns()]?,
             label_gap: 0,
         })
     }
@@ -94,7 +94,7 @@ impl Picture {
         ensures { IsGridOf history.now t (most_rows_of (drawn_tenants self.now)) result }
     {
         let bands = u32::from(self.end.saturating_sub(self.first)).max(TALL_BANDS);
-        let most_rows = TALL_BANDS * MOST_ROWS as u32 / bands;
+        let most_rows = TALL_BANDS * MAX_ROWS as u32 / bands;
         Grid::of(history, t, most_rows)
     }
 }

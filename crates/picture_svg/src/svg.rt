@@ -11,7 +11,7 @@ ghost use Rattle.picture_svg.specs.Texts.{WritesText, escaped, opening_text, rec
 ghost use Rattle.picture_svg.specs.Cells.{class_of, AreRows, AreShadePaths, IsTonePath};
 ghost use Rattle.picture_svg.specs.Marks.{depth_class, layer_text, middle_of, refusals_text, scale_text, turn_text};
 
-use frame_picture::drawing::{MOST_ROWS, Tone};
+use frame_picture::drawing::{MAX_ROWS, Tone};
 use frame_picture::grid::Grid;
 use frame_picture::history::{Column, History, ORDERS};
 use frame_picture::kinds::ALL;
@@ -52,12 +52,12 @@ const REFUSALS: u32 = 9;
 const ROWS_HEIGHT: u32 = 192;
 
 /// The largest height of a row.
-const MOST_ROW_HEIGHT: u32 = 16;
+const MAX_ROW_HEIGHT: u32 = 16;
 
 /// The largest number of slots that get a line and a number, and the largest number of slots that get a tick.
-const MOST_SLOT_LINES: u32 = 8;
+const MAX_SLOT_LINES: u32 = 8;
 
-const MOST_SLOT_TICKS: u32 = 64;
+const MAX_SLOT_TICKS: u32 = 64;
 
 const STYLE: &str = "<style>\
 text{font:12px sans-serif;fill:#444}\
@@ -267,7 +267,7 @@ pub fn draw_band<W: Write>(
     history: &History,
     t: u8,
     grid: Grid,
-    cells: &[[Tone; MOST_ROWS]],
+    cells: &[[Tone; MAX_ROWS]],
     top: u32,
     gap: u32,
 ) -> io::Result<()>
@@ -295,7 +295,7 @@ pub fn draw_band<W: Write>(
 /// Draws the cells of a band, upwards from the y coordinate `foot`.
 fn draw_rows<W: Write>(
     out: &mut W,
-    columns: &[[Tone; MOST_ROWS]],
+    columns: &[[Tone; MAX_ROWS]],
     grid: Grid,
     foot: u32,
 ) -> io::Result<()>
@@ -307,7 +307,7 @@ fn draw_rows<W: Write>(
         column_width(columns.len()),
         row_height(grid)
     )?;
-    let rows = MOST_ROWS.min(grid.rows as usize);
+    let rows = MAX_ROWS.min(grid.rows as usize);
     for kind in ALL {
         match kind {
             FrameKind::Free => {}
@@ -323,12 +323,12 @@ fn draw_rows<W: Write>(
 fn draw_shades<W: Write>(
     out: &mut W,
     kind: FrameKind,
-    columns: &[[Tone; MOST_ROWS]],
+    columns: &[[Tone; MAX_ROWS]],
     grid: Grid,
 ) -> io::Result<()>
     ensures { WritesText result (W.contents out.old) (W.contents out.new) (AreShadePaths columns.now grid kind) }
 {
-    let rows = MOST_ROWS.min(grid.rows as usize);
+    let rows = MAX_ROWS.min(grid.rows as usize);
     for (shade, quarters) in SHADES {
         if quarters == 4 || grid.frames_per_row > 1 {
             draw_tone(out, Tone { kind, quarters }, shade, columns, rows)?;
@@ -342,10 +342,10 @@ fn draw_tone<W: Write>(
     out: &mut W,
     tone: Tone,
     shade: &str,
-    columns: &[[Tone; MOST_ROWS]],
+    columns: &[[Tone; MAX_ROWS]],
     rows: usize,
 ) -> io::Result<()>
-    requires { rows ≤ MOST_ROWS }
+    requires { rows ≤ MAX_ROWS }
     ensures { WritesText result (W.contents out.old) (W.contents out.new) (IsTonePath columns.now rows tone shade.now) }
 {
     write!(out, "<path class=\"{}{shade}\" d=\"", class_of(tone.kind))?;
@@ -357,10 +357,10 @@ fn draw_tone<W: Write>(
 fn draw_cells<W: Write>(
     out: &mut W,
     tone: Tone,
-    columns: &[[Tone; MOST_ROWS]],
+    columns: &[[Tone; MAX_ROWS]],
     rows: usize,
 ) -> io::Result<()>
-    requires { rows ≤ MOST_ROWS }
+    requires { rows ≤ MAX_ROWS }
     ensures { WritesText result (W.contents out.old) (W.contents out.new)
         (λ text. (rectangles : List Rectangle) × CoverTone columns.now tone rows rectangles
         × (text ≡ flat_map rectangle_path rectangles)) }
@@ -375,13 +375,13 @@ fn draw_cells<W: Write>(
 fn draw_ended<W: Write>(
     out: &mut W,
     tone: Tone,
-    columns: &[[Tone; MOST_ROWS]],
+    columns: &[[Tone; MAX_ROWS]],
     rows: usize,
     end: usize,
 ) -> io::Result<()>
     requires some { 0 < end }
     requires within { end ≤ length columns.now }
-    requires few { rows ≤ MOST_ROWS }
+    requires few { rows ≤ MAX_ROWS }
     ensures { WritesText result (W.contents out.old) (W.contents out.new)
         (λ text. (rectangles : List Rectangle) × AreRectangles columns.now tone rows rows (end - 1) end rectangles
         × (text ≡ flat_map rectangle_path rectangles)) }
@@ -421,7 +421,7 @@ fn row_height(grid: Grid) -> u32
     ROWS_HEIGHT
         .checked_div(grid.rows)
         .unwrap_or(1)
-        .clamp(1, MOST_ROW_HEIGHT)
+        .clamp(1, MAX_ROW_HEIGHT)
 }
 
 /// Returns the height of all rows together.
@@ -521,8 +521,8 @@ fn draw_slots_axis<W: Write>(out: &mut W, grid: Grid, y: u32, bottom: u32) -> io
         x + 6,
         y.saturating_sub(8)
     )?;
-    let between = grid.slots_between(MOST_SLOT_LINES);
-    for mark in 0..MOST_SLOT_LINES {
+    let between = grid.slots_between(MAX_SLOT_LINES);
+    for mark in 0..MAX_SLOT_LINES {
         let slot = between.saturating_mul(mark);
         if let Some(frame) = grid.slot_start(slot) {
             let at = bottom.saturating_sub(height_of(grid, frame));
@@ -542,9 +542,9 @@ fn draw_slot_ticks<W: Write>(out: &mut W, grid: Grid, bottom: u32) -> io::Result
     ensures { WritesText result (W.contents out.old) (W.contents out.new) (λ _. ⊤) }
 {
     let x = LEFT + WIDTH;
-    let between = grid.slots_between(grid.rows.clamp(1, MOST_SLOT_TICKS));
+    let between = grid.slots_between(grid.rows.clamp(1, MAX_SLOT_TICKS));
     out.write_all(b"<path class=\"axis\" d=\"")?;
-    for mark in 0..MOST_SLOT_TICKS {
+    for mark in 0..MAX_SLOT_TICKS {
         if let Some(frame) = grid.slot_start(between.saturating_mul(mark)) {
             let at = bottom.saturating_sub(height_of(grid, frame));
             write!(out, "M{x} {at}h5")?;

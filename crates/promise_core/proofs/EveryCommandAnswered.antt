@@ -6,7 +6,7 @@ use Rattle.std.specs.Option.{option_map_or, option_eq}
 use Rattle.std.proofs.lemmas.Bool.{false≢true, and_from, eq-eqb, ltb-false, or_left}
 use Rattle.arrayvec.specs.ArrayVec.{ArrayVec}
 use Rattle.model_core.specs.Machine.{order_in}
-use Rattle.model_core.specs.declared.limits.TheConstants.{MOST_BYTES}
+use Rattle.model_core.specs.declared.limits.TheConstants.{MAX_BYTES}
 use Rattle.words_core.specs.declared.event.Command.{Command}
 use Rattle.words_core.specs.declared.event.Event.TheVariants as On
 use Rattle.words_core.specs.declared.reply.Addressee.TheVariants as To
@@ -96,9 +96,9 @@ module _ (w : Known) (s : State) (t : ℕ) (is : slice_get w.states t ≡ Some s
 
   read_reply : (place len : ℕ) → HasReply w t (Command.Read place len)
   unfolding due state_after
-  read_reply place len = go (nat_le 1 len && nat_le len MOST_BYTES) refl (holder_of s.has place len) refl
+  read_reply place len = go (nat_le 1 len && nat_le len MAX_BYTES) refl (holder_of s.has place len) refl
     where
-      go : (b : Bool) → (nat_le 1 len && nat_le len MOST_BYTES) ≡ b → (o : Option Holder) → holder_of s.has place len ≡ o → HasReply w t (Command.Read place len)
+      go : (b : Bool) → (nat_le 1 len && nat_le len MAX_BYTES) ≡ b → (o : Option Holder) → holder_of s.has place len ≡ o → HasReply w t (Command.Read place len)
       go false bad o e = told (Command.Read place len) (Say.Refused Refusal.BadLength)
           to_it
           (ap (λ b. option_map_or (is_one Refusal.BadLength) (first_due ((not b, Refusal.BadLength) ∷ (is_none (holder_of s.has place len), Refusal.OutOfReach) ∷ [])) false) bad)

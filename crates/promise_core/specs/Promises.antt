@@ -12,7 +12,7 @@ use Rattle.words_core.specs.declared.event.Event.{Event}
 use Rattle.words_core.specs.declared.reply.Refusal.{Refusal}
 use Rattle.words_core.specs.declared.reply.Reply.{Reply}
 use Rattle.words_core.specs.declared.report.Report.{Report}
-use Rattle.model_core.specs.declared.limits.TheConstants.{MOST_BYTES, FRAME_BYTES}
+use Rattle.model_core.specs.declared.limits.TheConstants.{MAX_BYTES, FRAME_BYTES}
 use Rattle.world_core.specs.World.{Exchange}
 use Rattle.model_core.specs.Blocks.{block}
 use Rattle.model_core.specs.Layouts.{is_size, is_alignment}
@@ -50,7 +50,7 @@ first_due ((stands, refusal) ∷ tests) = if stands then Some refusal else first
 unfoldable pub due : Event → Known → State → Option Refusal
 due (Event.Tenant t (Command.Alloc k)) w s = first_due ((nat_lt w.order k, Refusal.BadOrder) ∷ [])
 due (Event.Tenant t (Command.Free f)) w s = first_due ((is_none (order_in s.has.pages f), Refusal.NotABlock) ∷ [])
-due (Event.Tenant t (Command.Read place len)) w s = first_due ((not (nat_le 1 len && nat_le len MOST_BYTES), Refusal.BadLength)
+due (Event.Tenant t (Command.Read place len)) w s = first_due ((not (nat_le 1 len && nat_le len MAX_BYTES), Refusal.BadLength)
     ∷ (is_none (holder_of s.has place len), Refusal.OutOfReach) ∷ [])
 due (Event.Tenant t (Command.Write place bytes)) w s =
     first_due ((is_none (holder_of s.has place (length bytes.items)), Refusal.OutOfReach) ∷ [])

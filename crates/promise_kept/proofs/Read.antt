@@ -4,7 +4,7 @@ use Rattle.std.specs.Prelude.{if◌then◌else◌, Result, is_some, filter_map, 
 use Rattle.std.specs.List.{range_with_len, cons_option}
 use Rattle.std.specs.Option.{option_map_or}
 use Rattle.std.proofs.lemmas.Bool.{and_from, eq-eqb}
-use Rattle.model_core.specs.declared.limits.TheConstants.{MOST_BYTES}
+use Rattle.model_core.specs.declared.limits.TheConstants.{MAX_BYTES}
 use Rattle.model_core.specs.declared.refusals.ReadRefusal.{ReadRefusal}
 use Rattle.model_core.specs.Layouts.{pattern_byte}
 use Rattle.model_core.specs.Machine.{Machine}
@@ -82,7 +82,7 @@ byte_may {limit} order s m place len holder w h (IsHolder.object o i is t l) p b
 
 module _ (limit order place len : ℕ) (m : Machine) (s : State) (w : IsWellFormed limit order m) (h : Meets order s m) where
   abbrev is_length : Bool
-  is_length = leb 1 len && leb len MOST_BYTES
+  is_length = leb 1 len && leb len MAX_BYTES
 
   bad_length : is_length ≡ false → IsKeptBy limit order (Command.Read place len) s (Say.Refused Refusal.BadLength) m
   unfolding due

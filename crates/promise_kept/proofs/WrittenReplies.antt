@@ -3,7 +3,7 @@ use Rattle.std.proofs.Common.{◌≡◌, ℕ, ◌*◌, ◌^◌, ◌≤◌, List,
 use Rattle.std.specs.Prelude.{map}
 use Rattle.std.proofs.Math.Nat.{mul-le-mul}
 use Rattle.std.proofs.Math.Pow.{pow_mono}
-use Rattle.model_core.specs.declared.limits.TheConstants.{MOST_ORDER, MOST_SUPERBLOCKS}
+use Rattle.model_core.specs.declared.limits.TheConstants.{MAX_ORDER, MAX_SUPERBLOCKS}
 use Rattle.words_core.specs.declared.event.Event.{Event}
 use Rattle.words_core.specs.declared.event.LineFault.{LineFault}
 use Rattle.words_core.specs.Grammar.{reading_of}
@@ -48,6 +48,6 @@ shown_is_allowed only limit order superblocks tenants lines le ram =
     }
 
 -- if the order and the number of superblocks are within their limits, RAM has at most 2 ^ 32 places
-pub ram_is_small : (order superblocks : ℕ) → order ≤ MOST_ORDER → superblocks ≤ MOST_SUPERBLOCKS → superblocks * 2 ^ order * 4096 ≤ 2 ^ 32
+pub ram_is_small : (order superblocks : ℕ) → order ≤ MAX_ORDER → superblocks ≤ MAX_SUPERBLOCKS → superblocks * 2 ^ order * 4096 ≤ 2 ^ 32
 ram_is_small order superblocks low few =
     let frames : superblocks * 2 ^ order ≤ 256 * 256 = mul-le-mul few (pow_mono low) in omega (arith, frames)

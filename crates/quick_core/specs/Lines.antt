@@ -5,8 +5,8 @@ use Rattle.words_core.specs.Grammar.{reading_of}
 use Rattle.words_core.specs.Numbers.{number_of}
 use Rattle.words_core.specs.declared.event.Command.{Command}
 use Rattle.words_core.specs.declared.event.Event.{Event}
-use Rattle.quick_core.specs.declared.request.TheConstants.{MOST_TENANT_DIGITS}
-use Rattle.quick_core.specs.declared.number.TheConstants.{MOST_READ_DIGITS}
+use Rattle.quick_core.specs.declared.request.TheConstants.{MAX_TENANT_DIGITS}
+use Rattle.quick_core.specs.declared.number.TheConstants.{MAX_READ_DIGITS}
 use Rattle.quick_core.specs.declared.number.Number.{Number}
 
 -- The first line feed (byte 10) is at index `len` - 1. The line before it reads as this command of this tenant.
@@ -27,13 +27,13 @@ pub record IsLastNumber (bytes : List ℕ) (from value len : ℕ) : Type 0 where
   pub end : ℕ
   pub number : number_of (slice_range bytes from end) ≡ Some value
   pub some : from < end
-  pub short : end ≤ from + MOST_READ_DIGITS
+  pub short : end ≤ from + MAX_READ_DIGITS
   pub ended : EndsLine bytes end len
 
 -- the bytes begin with the number of a tenant, which has at most three digits, and a space
 pub record NamesTenant (bytes : List ℕ) (tenant : Number) : Type 0 where
   pub number : number_of (slice_range bytes 0 tenant.end) ≡ Some tenant.value
-  pub short : tenant.end ≤ MOST_TENANT_DIGITS
+  pub short : tenant.end ≤ MAX_TENANT_DIGITS
   pub blank : slice_index bytes tenant.end ≡ 32
 
 -- the bytes begin with the number of a tenant, a space, and these four letters

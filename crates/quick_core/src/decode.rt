@@ -3,26 +3,26 @@
 ghost use Rattle.std.specs.Prelude.{◌≡◌, ◌+◌, ◌*◌, ◌<◌, ◌≤◌, [], ◌∷◌, ◌++◌, IfSome, length, take};
 ghost use Rattle.quick_core.specs.Pairs.{Decodes};
 
-use model_core::limits::MOST_BYTES;
+use model_core::limits::MAX_BYTES;
 
 /// Decodes the pairs of hex digits from index `from` on into the front of `out`, until two bytes are not a pair of digits,
 /// `out` is full, or the bytes end. Returns the number of pairs decoded.
 #[inline(always)]
-pub fn decode_at(bytes: &[u8], from: usize, out: &mut [u8; MOST_BYTES]) -> usize
+pub fn decode_at(bytes: &[u8], from: usize, out: &mut [u8; MAX_BYTES]) -> usize
     requires { from ≤ length bytes.now }
     ensures decoded { Decodes bytes.now from (from + 2 * result) (take result out.new) }
-    ensures few { result ≤ MOST_BYTES }
+    ensures few { result ≤ MAX_BYTES }
     ensures within { from + 2 * result ≤ length bytes.now }
 {
-    let most = MOST_BYTES.min((bytes.len() - from) / 2);
+    let most = MAX_BYTES.min((bytes.len() - from) / 2);
     let done = decode_fours(bytes, from, most, out);
     decode_singly(bytes, from, done, most, out)
 }
 
 /// Decodes at most `most` pairs, four at a time, and returns the number of pairs decoded.
 #[inline(always)]
-fn decode_fours(bytes: &[u8], from: usize, most: usize, out: &mut [u8; MOST_BYTES]) -> usize
-    requires few { most ≤ MOST_BYTES }
+fn decode_fours(bytes: &[u8], from: usize, most: usize, out: &mut [u8; MAX_BYTES]) -> usize
+    requires few { most ≤ MAX_BYTES }
     requires within { from + 2 * most ≤ length bytes.now }
     ensures decoded { Decodes bytes.now from (from + 2 * result) (take result out.new) }
     ensures few { result ≤ most }
@@ -54,9 +54,9 @@ fn decode_singly(
     from: usize,
     done: usize,
     most: usize,
-    out: &mut [u8; MOST_BYTES],
+    out: &mut [u8; MAX_BYTES],
 ) -> usize
-    requires few { most ≤ MOST_BYTES }
+    requires few { most ≤ MAX_BYTES }
     requires within { from + 2 * most ≤ length bytes.now }
     requires some { done ≤ most }
     requires decoded { Decodes bytes.now from (from + 2 * done) (take done out.old) }

@@ -8,7 +8,7 @@ ghost use Rattle.quick_core.specs.Lines.{IsLastNumber};
 use crate::line_end::line_len;
 
 /// The largest number of digits that are read. A number with that many digits always fits into a `u32`.
-pub const MOST_READ_DIGITS: usize = 9;
+pub const MAX_READ_DIGITS: usize = 9;
 
 /// The value of a number in some bytes, and the index after its last digit.
 #[derive(Clone, Copy, Debug)]
@@ -20,7 +20,7 @@ pub struct Number {
 /// Reads the digits from index `from` on as a number, but at most `most` digits. Returns `None` if there is no digit.
 #[inline(always)]
 pub fn number_at(bytes: &[u8], from: usize, most: usize) -> Option<Number>
-    requires few { most ≤ MOST_READ_DIGITS }
+    requires few { most ≤ MAX_READ_DIGITS }
     requires some { 0 < most }
     requires within { from + most ≤ length bytes.now }
     ensures value { IfSome result (λ number. number_of (slice_range bytes.now from number.end) ≡ Some number.value) }
@@ -54,14 +54,14 @@ pub struct LastNumber {
     pub len: usize,
 }
 
-/// Reads a number of at most [`MOST_READ_DIGITS`] digits from index `from` on, if the end of the line follows it: LF, or CR LF if
+/// Reads a number of at most [`MAX_READ_DIGITS`] digits from index `from` on, if the end of the line follows it: LF, or CR LF if
 /// `RETURNS`. Returns `None` otherwise.
 #[inline(always)]
 pub fn last_number<const RETURNS: bool>(bytes: &[u8], from: usize) -> Option<LastNumber>
-    requires { from + MOST_READ_DIGITS + 1 < length bytes.now }
+    requires { from + MAX_READ_DIGITS + 1 < length bytes.now }
     ensures { IfSome result (λ number. IsLastNumber bytes.now from number.value number.len) }
 {
-    let number = number_at(bytes, from, MOST_READ_DIGITS)?;
+    let number = number_at(bytes, from, MAX_READ_DIGITS)?;
     let len = line_len::<RETURNS>(bytes, number.end)?;
     Some(LastNumber {
         value: number.value,

@@ -11,8 +11,8 @@ ghost use Rattle.quick_core.specs.Lines.{BeginsLine, NamesTenant, ReadsAs};
 
 use crate::decode::decode_at;
 use crate::line_end::{LF, line_len};
-use crate::number::{MOST_READ_DIGITS, Number, last_number, number_at};
-use model_core::limits::MOST_BYTES;
+use crate::number::{MAX_READ_DIGITS, Number, last_number, number_at};
+use model_core::limits::MAX_BYTES;
 use words_core::{Request, one_case};
 
 /// A line that was read: its tenant, its request, and its length in bytes, including the line end.
@@ -28,7 +28,7 @@ pub struct RequestLine<'a> {
 pub const WINDOW: usize = 32;
 
 /// The largest number of digits in a tenant's number that is read here.
-pub const MOST_TENANT_DIGITS: usize = 3;
+pub const MAX_TENANT_DIGITS: usize = 3;
 
 /// The bytes `allo` as a little-endian number. The next five constants are the first four letters of the other commands, in the
 /// same form.
@@ -46,10 +46,10 @@ const WRIT: u32 = 0x7469_7277;
 
 /// Reads the line at the front of these bytes, if it is an `alloc`, `free`, `take`, `give`, `read` or `write` with single spaces
 /// between its words and LF alone at its end. The bytes of a `write` are decoded into `buffer`. Returns `None` for any other
-/// line, for a tenant's number of more than [`MOST_TENANT_DIGITS`] digits, for another number of more than nine digits, and if
+/// line, for a tenant's number of more than [`MAX_TENANT_DIGITS`] digits, for another number of more than nine digits, and if
 /// there are fewer than [`WINDOW`] bytes.
 #[inline(always)]
-pub fn read_request<'a>(bytes: &[u8], buffer: &'a mut [u8; MOST_BYTES]) -> Option<RequestLine<'a>>
+pub fn read_request<'a>(bytes: &[u8], buffer: &'a mut [u8; MAX_BYTES]) -> Option<RequestLine<'a>>
     ensures reads { IfSome result (λ line. ReadsAs bytes.now line.tenant (command_of line.request) line.len) }
     ensures askable { IfSome result (λ line. IsAskable line.request) }
 {
@@ -60,7 +60,7 @@ pub fn read_request<'a>(bytes: &[u8], buffer: &'a mut [u8; MOST_BYTES]) -> Optio
 #[inline(always)]
 pub fn read_ended_request<'a, const RETURNS: bool>(
     bytes: &[u8],
-    buffer: &'a mut [u8; MOST_BYTES],
+    buffer: &'a mut [u8; MAX_BYTES],
 ) -> Option<RequestLine<'a>>
     ensures reads { IfSome result (λ line. ReadsAs bytes.now line.tenant (command_of line.request) line.len) }
     ensures askable { IfSome result (λ line. IsAskable line.request) }
@@ -76,7 +76,7 @@ pub fn may_begin_request(bytes: &[u8]) -> bool {
 }
 
 /// Reads the number of a tenant, followed by a space, at the front of these bytes. Returns `None` if they do not begin like that,
-/// if the number has more than [`MOST_TENANT_DIGITS`] digits, or if there are fewer than [`WINDOW`] bytes.
+/// if the number has more than [`MAX_TENANT_DIGITS`] digits, or if there are fewer than [`WINDOW`] bytes.
 #[inline(always)]
 pub fn read_tenant(bytes: &[u8]) -> Option<Number>
     ensures size { IfSome result (λ tenant. WINDOW ≤ length bytes.now) }
@@ -85,7 +85,7 @@ pub fn read_tenant(bytes: &[u8]) -> Option<Number>
     if bytes.len() < WINDOW {
         return None;
     }
-    let tenant = number_at(bytes, 0, MOST_TENANT_DIGITS)?;
+    let tenant = number_at(bytes, 0, MAX_TENANT_DIGITS)?;
     (bytes[tenant.end] == b' ').then_some(tenant)
 }
 
@@ -94,7 +94,7 @@ pub fn read_tenant(bytes: &[u8]) -> Option<Number>
 pub fn read_known_request<'a, const RETURNS: bool>(
     bytes: &[u8],
     tenant: Number,
-    buffer: &'a mut [u8; MOST_BYTES],
+    buffer: &'a mut [u8; MAX_BYTES],
 ) -> Option<RequestLine<'a>>
     requires size { WINDOW ≤ length bytes.now }
     requires names { NamesTenant bytes.now tenant }
@@ -198,7 +198,7 @@ fn give_line<const RETURNS: bool>(bytes: &[u8], tenant: Number) -> Option<Reques
     if bytes[at] != b' ' {
         return None;
     }
-    let cache = number_at(bytes, at + 1, MOST_READ_DIGITS)?;
+    let cache = number_at(bytes, at + 1, MAX_READ_DIGITS)?;
     if bytes[cache.end] != b' ' {
         return None;
     }
@@ -226,7 +226,7 @@ fn read_line<const RETURNS: bool>(bytes: &[u8], tenant: Number) -> Option<Reques
     if bytes[at] != b' ' {
         return None;
     }
-    let place = number_at(bytes, at + 1, MOST_READ_DIGITS)?;
+    let place = number_at(bytes, at + 1, MAX_READ_DIGITS)?;
     if bytes[place.end] != b' ' {
         return None;
     }
@@ -246,7 +246,7 @@ fn read_line<const RETURNS: bool>(bytes: &[u8], tenant: Number) -> Option<Reques
 fn write_line<'a, const RETURNS: bool>(
     bytes: &[u8],
     tenant: Number,
-    buffer: &'a mut [u8; MOST_BYTES],
+    buffer: &'a mut [u8; MAX_BYTES],
 ) -> Option<RequestLine<'a>>
     requires size { WINDOW ≤ length bytes.now }
     requires begins { BeginsLine bytes.now tenant (codes "writ") }
@@ -259,7 +259,7 @@ fn write_line<'a, const RETURNS: bool>(
     if bytes[at] != b'e' || bytes[at + 1] != b' ' {
         return None;
     }
-    let place = number_at(bytes, at + 2, MOST_READ_DIGITS)?;
+    let place = number_at(bytes, at + 2, MAX_READ_DIGITS)?;
     if bytes[place.end] != b' ' {
         return None;
     }

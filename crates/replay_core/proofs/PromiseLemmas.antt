@@ -1,7 +1,7 @@
 -- The replies whose text the drain takes keep the promises.
 use Rattle.std.proofs.Common.{◌≡◌, ℕ, ◌*◌, ◌^◌, ◌≤◌, Bool, List, [], ◌∷◌, ◌++◌, length, Option, None, Err, ap, sym, subst, ◌∙◌}
 use Rattle.std.proofs.lemmas.List.{length-replicate}
-use Rattle.model_core.specs.declared.limits.TheConstants.{MOST_SUPERBLOCKS}
+use Rattle.model_core.specs.declared.limits.TheConstants.{MAX_SUPERBLOCKS}
 use Rattle.world_core.specs.Limits.{cache_limit}
 use Rattle.world_core.specs.World.{World, opening_world}
 use Rattle.world_core.specs.Output.{shown_lines}
@@ -19,7 +19,7 @@ ram_shown : (k : KernelContent) (superblocks tenants : ℕ) → Shows k (opening
 unfolding opening_world
 ram_shown k superblocks tenants shows =
     ram_is_small k.order superblocks shows.agree.order
-    (subst (λ n. n ≤ MOST_SUPERBLOCKS) (sym (ap length shows.owners) ∙ length-replicate superblocks None) shows.agree.space.few)
+    (subst (λ n. n ≤ MAX_SUPERBLOCKS) (sym (ap length shows.owners) ∙ length-replicate superblocks None) shows.agree.space.few)
 
 shown_allowed : (only : Option ℕ) (before : KernelContent) (lines : List (List ℕ)) (superblocks tenants : ℕ) → Shows before (opening_world superblocks tenants) → 3 ≤ before.order
     → IsAllowedText only cache_limit before.order superblocks tenants lines (shown_lines only cache_limit before.order lines (opening_world superblocks tenants))

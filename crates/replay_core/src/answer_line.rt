@@ -12,7 +12,7 @@ ghost use Rattle.replay_core.specs.Standing.{IsReady, AnswersRead, answers};
 use crate::notes::{Notes, note_answer};
 use crate::run::Run;
 use kernel_core::Kernel;
-use model_core::limits::MOST_BYTES;
+use model_core::limits::MAX_BYTES;
 use quick_core::{LF, read_known_request, read_tenant};
 use streams::Drain;
 use words_core::{Addressee, Request};
@@ -51,7 +51,7 @@ impl<N: Notes> Run<N> {
         ensures failed { D.has_failed drain.new ≡ false }
     {
         // The bytes of a write: one buffer for all lines.
-        let mut buffer = [0; MOST_BYTES];
+        let mut buffer = [0; MAX_BYTES];
         let mut rest = piece;
         'lines: while drain.has_space() {
             let Some(len) = self.answer_line::<RETURNS, D>(rest, &mut buffer, kernel, drain) else {
@@ -68,7 +68,7 @@ impl<N: Notes> Run<N> {
     fn answer_line<const RETURNS: bool, D: Drain>(
         &mut self,
         bytes: &[u8],
-        buffer: &mut [u8; MOST_BYTES],
+        buffer: &mut [u8; MAX_BYTES],
         kernel: &mut Kernel,
         drain: &mut D,
     ) -> Option<usize>

@@ -12,7 +12,7 @@ ghost use Rattle.replay_core.specs.Standing.{IsReady, AnswersRead, answers};
 use crate::notes::Notes;
 use crate::run::Run;
 use kernel_core::Kernel;
-use model_core::limits::MOST_BYTES;
+use model_core::limits::MAX_BYTES;
 use quick_core::{
     CR_LF, LF, RequestLine, WINDOW, read_ended_request, read_known_request, read_tenant,
 };
@@ -38,7 +38,7 @@ impl<N: Notes> Run<N> {
         ensures failed { D.has_failed drain.new ≡ is_err result }
     {
         // The bytes of a write: one buffer for all lines.
-        let mut buffer = [0; MOST_BYTES];
+        let mut buffer = [0; MAX_BYTES];
         let mut rest = self.run_in_place::<RETURNS, D>(piece, kernel, drain);
         'lines: while let Some(line) = self.read_left::<RETURNS, D>(
             rest,
@@ -62,7 +62,7 @@ impl<N: Notes> Run<N> {
     fn read_left<'a, const RETURNS: bool, D: Drain>(
         &self,
         bytes: &[u8],
-        buffer: &'a mut [u8; MOST_BYTES],
+        buffer: &'a mut [u8; MAX_BYTES],
         kernel: &Kernel,
         drain: &D,
     ) -> Option<RequestLine<'a>>
@@ -95,7 +95,7 @@ impl<N: Notes> Run<N> {
         ensures left { IfOk result (λ rest. self.new.lines + length rest.now ≤ self.old.lines + length piece.now) }
         ensures failed { D.has_failed drain.new ≡ is_err result }
     {
-        let mut buffer = [0; MOST_BYTES];
+        let mut buffer = [0; MAX_BYTES];
         let mut rest = piece;
         'lines: while let Some(end) = line_end(rest) {
             let Some(read) = read_alone(&rest[..end], &mut buffer) else {
@@ -140,7 +140,7 @@ impl<N: Notes> Run<N> {
 
 /// Reads a single line, without its line feed, as a quick request. Returns `None` if the line has `WINDOW` bytes or more, or is
 /// not recognized as a quick request.
-fn read_alone<'a>(line: &[u8], buffer: &'a mut [u8; MOST_BYTES]) -> Option<RequestLine<'a>>
+fn read_alone<'a>(line: &[u8], buffer: &'a mut [u8; MAX_BYTES]) -> Option<RequestLine<'a>>
     ensures reads { IfSome result (λ read. reading_of line.now ≡ Ok (Some (Tenant read.tenant (command_of read.request)))) }
     ensures askable { IfSome result (λ read. IsAskable read.request) }
 {
@@ -155,7 +155,7 @@ fn read_alone<'a>(line: &[u8], buffer: &'a mut [u8; MOST_BYTES]) -> Option<Reque
 /// `WINDOW` bytes and reads it there.
 fn read_in_window<'a, const RETURNS: bool>(
     line: &[u8],
-    buffer: &'a mut [u8; MOST_BYTES],
+    buffer: &'a mut [u8; MAX_BYTES],
 ) -> Option<RequestLine<'a>>
     ensures reads { IfSome result (λ read. reading_of line.now ≡ Ok (Some (Tenant read.tenant (command_of read.request)))) }
     ensures askable { IfSome result (λ read. IsAskable read.request) }

@@ -12,7 +12,7 @@ use crate::notes::{Notes, note_answer, note_body};
 use std::marker::Model;
 use streams::{Drain, Stopped, TEXT_BYTES, Text};
 use words_core::{
-    Addressee, Answer, MOST_ANSWER_BYTES, MOST_REPLY_BYTES, Reply, rows, write_answer,
+    Addressee, Answer, MAX_ANSWER_BYTES, MAX_REPLY_BYTES, Reply, rows, write_answer,
     write_answer_to, write_row,
 };
 
@@ -79,7 +79,7 @@ impl Replies {
             return Ok(());
         }
         note_answer(answer, notes);
-        let mut text = [0; MOST_ANSWER_BYTES];
+        let mut text = [0; MAX_ANSWER_BYTES];
         let len = write_answer_to(addressee, answer, &mut text);
         push_all(&text[..len], drain, &mut self.written)
     }
@@ -103,7 +103,7 @@ impl Replies {
             return Ok(());
         }
         note_body(&reply.body, notes);
-        let mut text = [0; MOST_REPLY_BYTES];
+        let mut text = [0; MAX_REPLY_BYTES];
         for row in 0..rows(reply) {
             let len = write_row(reply, row, &mut text);
             push_all(&text[..len], drain, &mut self.written)?;

@@ -8,17 +8,17 @@ use std::fmt;
 use words_core::LineFault;
 
 /// The largest number of faulty lines that are noted.
-pub(crate) const MOST_FAULTS: usize = 10;
+pub(crate) const MAX_FAULTS: usize = 10;
 
 /// The largest number of bytes that are noted for each faulty line.
-const MOST_SHOWN: usize = 32;
+const MAX_SHOWN: usize = 32;
 
 /// A faulty line: its number, counted from 1, its fault, and its first 32 bytes.
 #[derive(Debug, Drop)]
 pub struct FaultyLine {
     number: u64,
     fault: LineFault,
-    begin: ArrayVec<u8, MOST_SHOWN>,
+    begin: ArrayVec<u8, MAX_SHOWN>,
 }
 
 impl Default for FaultyLine {
@@ -32,7 +32,7 @@ impl FaultyLine {
         ensures { result ≡ faulty_line number fault line.now }
     {
         let mut begin = ArrayVec::new();
-        let shown = MOST_SHOWN.min(line.len());
+        let shown = MAX_SHOWN.min(line.len());
         let taken = begin.try_extend_from_slice(&line[..shown]);
         prove!(taken.is_ok());
         FaultyLine {

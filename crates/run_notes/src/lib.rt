@@ -8,4 +8,4 @@ mod refusals;
 
 pub use faults::FaultyLine;
 pub use notes::RunNotes;
-pub use refusals::{MOST_NUMBER, Refused};
+pub use refusals::{MAX_NUMBER, Refused};

@@ -4,7 +4,7 @@ ghost use Rattle.std.specs.Prelude.{◌≡◌, MatchOption};
 ghost use Rattle.words_core.specs.Texts.{number_of_refusal};
 ghost use Rattle.run_notes.specs.Notes.{no_notes, times_of, with_refusal};
 
-use crate::faults::{FaultyLine, MOST_FAULTS};
+use crate::faults::{FaultyLine, MAX_FAULTS};
 use crate::refusals::Refused;
 use arrayvec::ArrayVec;
 use replay_core::Notes;
@@ -13,7 +13,7 @@ use words_core::{LineFault, REFUSALS, Refusal};
 /// The first faulty lines of a trace, and the number of times that each refusal was shown.
 #[derive(Debug, Drop)]
 pub struct RunNotes {
-    first: ArrayVec<FaultyLine, MOST_FAULTS>,
+    first: ArrayVec<FaultyLine, MAX_FAULTS>,
     times: [u64; REFUSALS.len()],
 }
 

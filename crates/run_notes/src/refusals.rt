@@ -4,7 +4,7 @@ use std::fmt;
 use words_core::Refusal;
 
 /// The highest number of a refusal. Refusals are numbered from 1.
-pub const MOST_NUMBER: u8 = 15;
+pub const MAX_NUMBER: u8 = 15;
 
 /// A refusal, and the number of times that it was shown.
 #[derive(Clone, Copy, Debug)]

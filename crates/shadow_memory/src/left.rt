@@ -2,7 +2,7 @@
 
 ghost use Rattle.std.specs.Prelude.{◌≡◌, ℕ, ◌+◌, ◌*◌, ◌^◌, ◌<◌, ◌≤◌, ◌==◌, ◌&&◌, not, filter, length, [], ◌∷◌, Some, true, false, OnOk, OnErr, option_map, slice_index};
 ghost use Rattle.std.specs.List.{list_any};
-ghost use Rattle.model_core.specs.declared.limits.TheConstants.{FRAME_BYTES, MOST_ORDER};
+ghost use Rattle.model_core.specs.declared.limits.TheConstants.{FRAME_BYTES, MAX_ORDER};
 ghost use Rattle.model_core.specs.Machine.{in_block, slot_of};
 ghost use Rattle.promise_core.specs.Holdings.{KnownCache, slab_around};
 ghost use Rattle.promise_core.specs.Bytes.{Holder, is_object, is_same, with_bytes, doubted, without};
@@ -32,7 +32,7 @@ pub struct ShadowMemory {
 
 impl Model for ShadowMemory {
     ghost use Rattle.std.specs.Prelude.{◌≤◌};
-    ghost use Rattle.model_core.specs.declared.limits.TheConstants.{MOST_ORDER};
+    ghost use Rattle.model_core.specs.declared.limits.TheConstants.{MAX_ORDER};
     ghost use Rattle.shadow_memory.specs.Left.{Left};
     ghost use Rattle.shadow_memory.specs.Inside.{AreSlots};
 
@@ -40,13 +40,13 @@ impl Model for ShadowMemory {
 
     ghost view = { λ b. record { order = b.order; slots = b.slots.items } };
 
-    ghost invariant = { λ b. (b.order ≤ MOST_ORDER) × AreSlots b.order b.slots.items b.reach };
+    ghost invariant = { λ b. (b.order ≤ MAX_ORDER) × AreSlots b.order b.slots.items b.reach };
 }
 
 impl ShadowMemory {
     /// Returns shadow memory without slots, for slots of `2^order` frames.
     pub fn new(alloc: Global, order: u8) -> ShadowMemory
-        requires { order ≤ MOST_ORDER }
+        requires { order ≤ MAX_ORDER }
         ensures { result ≡ record { order = order; slots = [] } }
     {
         ShadowMemory {
@@ -59,7 +59,7 @@ impl ShadowMemory {
     /// Returns the order of a slot, which has `2^order` frames.
     pub fn order(&self) -> u8
         ensures value { result ≡ self.now.order }
-        ensures most { result ≤ MOST_ORDER }
+        ensures most { result ≤ MAX_ORDER }
     {
         self.order
     }

@@ -2,7 +2,7 @@
 
 ghost use Rattle.std.specs.Prelude.{◌≡◌, ◌^◌, ◌≤◌, ◌==◌, not, filter, option_map};
 ghost use Rattle.std.specs.List.{AllByRecursion};
-ghost use Rattle.model_core.specs.declared.limits.TheConstants.{MOST_ORDER};
+ghost use Rattle.model_core.specs.declared.limits.TheConstants.{MAX_ORDER};
 ghost use Rattle.judge_core.specs.Holders.{shown_cell};
 ghost use Rattle.shadow_memory.specs.Left.{left_in, slot_places};
 ghost use Rattle.shadow_memory.specs.Inside.{IsSlotWhole, AreKeptFrom, AreStepped, within};
@@ -15,7 +15,7 @@ use model_core::limits::FRAME_BYTES;
 
 /// Returns the number of places in a slot of `2^order` frames.
 pub(crate) fn places_of(order: u8) -> u64
-    requires { order ≤ MOST_ORDER }
+    requires { order ≤ MAX_ORDER }
     ensures value { result ≡ slot_places order }
     ensures most { result ≤ 2 ^ 20 }
 {
@@ -25,7 +25,7 @@ pub(crate) fn places_of(order: u8) -> u64
 /// Returns what was left at a place of these slots of `2^order` frames. Returns `None` if nothing was left there, or if the place
 /// is in none of the slots.
 pub(crate) fn left_in(slots: &[SlotBytes], order: u8, place: u32) -> Option<LeftByte>
-    requires { order ≤ MOST_ORDER }
+    requires { order ≤ MAX_ORDER }
     ensures { option_map shown_cell result ≡ left_in order slots.now place }
 {
     let places = places_of(order);
@@ -42,7 +42,7 @@ pub(crate) fn left_in(slots: &[SlotBytes], order: u8, place: u32) -> Option<Left
 /// Returns the stored bytes that begin at a place and lie in its slot. They may end before the slot does. Returns no bytes if the
 /// place is in none of the slots.
 pub(crate) fn kept_from(slots: &[SlotBytes], order: u8, place: u32) -> &[KeptByte]
-    requires order { order ≤ MOST_ORDER }
+    requires order { order ≤ MAX_ORDER }
     requires whole { AllByRecursion (IsSlotWhole order) slots.now }
     ensures { AreKeptFrom order slots.now place result.now }
 {
@@ -65,7 +65,7 @@ pub(crate) fn change_slots<C: Change>(
     end: u64,
     change: &C,
 )
-    requires order { order ≤ MOST_ORDER }
+    requires order { order ≤ MAX_ORDER }
     requires whole { AllByRecursion (IsSlotWhole order) slots.old }
     ensures { AreStepped order (within begin end (C.step change.now)) slots.old slots.new }
 {

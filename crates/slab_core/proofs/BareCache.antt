@@ -6,7 +6,7 @@ use Rattle.std.proofs.lemmas.List.{length-set, get_or-set_same, get_or-set_other
 use Rattle.model_core.specs.Machine.{Machine, Cache}
 use Rattle.model_core.specs.Slabs.{cache_of}
 use Rattle.model_core.specs.WellFormed.{RisesFrom}
-use Rattle.model_core.specs.declared.limits.TheConstants.{MOST_CACHES}
+use Rattle.model_core.specs.declared.limits.TheConstants.{MAX_CACHES}
 use Rattle.klist_core.specs.Places.{place_at}
 use Rattle.space_core.specs.Content as spaces
 use Rattle.buddy_core.specs.Content as buddies
@@ -29,25 +29,25 @@ not_of s i f n none = go (place_at s.lists.places n) refl
     go None e = refl
     go (Some p) e = ap (λ v. v && eqb p.1 f) (ne_eqb (p.0 / 3) i (none n p.0 p.1 e))
 
-module _ (s : Content) (t c : ℕ) (o : Option own.Cache) (small : c < MOST_CACHES) (within : index_of_cache t c < length s.caches) where
+module _ (s : Content) (t c : ℕ) (o : Option own.Cache) (small : c < MAX_CACHES) (within : index_of_cache t c < length s.caches) where
   pub cache_here : cache_at (with_cache s t c o) t c ≡ o
   cache_here =
-      ap (λ v. cond v (cache_in (with_cache s t c o).caches (index_of_cache t c)) None) (lt-ltb c MOST_CACHES small)
+      ap (λ v. cond v (cache_in (with_cache s t c o).caches (index_of_cache t c)) None) (lt-ltb c MAX_CACHES small)
       ∙ get_or-set_same s.caches (index_of_cache t c) o None within
 
   pub in_other : (i : ℕ) → i ≢ index_of_cache t c → cache_in (with_cache s t c o).caches i ≡ cache_in s.caches i
   in_other i differ = get_or-set_other s.caches (index_of_cache t c) i o None differ
 
-  at_other : (u d : ℕ) → (d < MOST_CACHES → index_of_cache u d ≢ index_of_cache t c) → cache_at (with_cache s t c o) u d ≡ cache_at s u d
-  at_other u d differ = ⊎_elim below above (cases_lt d MOST_CACHES)
+  at_other : (u d : ℕ) → (d < MAX_CACHES → index_of_cache u d ≢ index_of_cache t c) → cache_at (with_cache s t c o) u d ≡ cache_at s u d
+  at_other u d differ = ⊎_elim below above (cases_lt d MAX_CACHES)
     where
-      below : d < MOST_CACHES → cache_at (with_cache s t c o) u d ≡ cache_at s u d
-      below less = ap (λ x. cond (ltb d MOST_CACHES) x None) (in_other (index_of_cache u d) (differ less))
+      below : d < MAX_CACHES → cache_at (with_cache s t c o) u d ≡ cache_at s u d
+      below less = ap (λ x. cond (ltb d MAX_CACHES) x None) (in_other (index_of_cache u d) (differ less))
 
-      above : MOST_CACHES ≤ d → cache_at (with_cache s t c o) u d ≡ cache_at s u d
+      above : MAX_CACHES ≤ d → cache_at (with_cache s t c o) u d ≡ cache_at s u d
       above more =
-          ap (λ v. cond v (cache_in (with_cache s t c o).caches (index_of_cache u d)) None) (le-ltb d MOST_CACHES more)
-          ∙ sym (ap (λ v. cond v (cache_in s.caches (index_of_cache u d)) None) (le-ltb d MOST_CACHES more))
+          ap (λ v. cond v (cache_in (with_cache s t c o).caches (index_of_cache u d)) None) (le-ltb d MAX_CACHES more)
+          ∙ sym (ap (λ v. cond v (cache_in s.caches (index_of_cache u d)) None) (le-ltb d MAX_CACHES more))
 
   pub cache_there : (d : ℕ) → d ≢ c → cache_at (with_cache s t c o) t d ≡ cache_at s t d
   cache_there d differ = at_other t d (λ less e. differ (omega arith))

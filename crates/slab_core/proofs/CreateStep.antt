@@ -6,7 +6,7 @@ use Rattle.model_core.specs.Machine.{Machine, Cache, put_rising}
 use Rattle.model_core.specs.Slabs.{cache_of}
 use Rattle.model_core.specs.CacheOperations.{created, next_number, create_step}
 use Rattle.model_core.specs.Operations.{Step}
-use Rattle.model_core.specs.declared.limits.TheConstants.{MOST_CACHES}
+use Rattle.model_core.specs.declared.limits.TheConstants.{MAX_CACHES}
 use Rattle.model_core.proofs.Lists.{each_from, put_rises}
 use Rattle.layout_core.specs.Cut.{Cut}
 use Rattle.space_core.specs.Content as spaces
@@ -22,11 +22,11 @@ use Rattle.slab_core.proofs.BareCache.{IsBare, cache_agrees, cache_shows}
 use Rattle.slab_core.proofs.LeastFreeNumber.{least_above, least_is}
 
 -- if tenant t has no cache c, no slab is in a list of cache c
-pub bare_without : (s : Content) (t c : ℕ) → IsSlabs s → c < MOST_CACHES → cache_at s t c ≡ None → IsBare s (index_of_cache t c)
+pub bare_without : (s : Content) (t c : ℕ) → IsSlabs s → c < MAX_CACHES → cache_at s t c ≡ None → IsBare s (index_of_cache t c)
 bare_without s t c w small vacant n head key placed e =
     let there = w.standing n head key placed in
     some_none (sym there.1 ∙ ap (cache_in s.caches) e
-    ∙ sym (ap (λ v. cond v (cache_in s.caches (index_of_cache t c)) None) (lt-ltb c MOST_CACHES small)) ∙ vacant)
+    ∙ sym (ap (λ v. cond v (cache_in s.caches (index_of_cache t c)) None) (lt-ltb c MAX_CACHES small)) ∙ vacant)
 
 some_stays : (x : Option Cache) (d : ℕ) (o : Option own.Cache) → option_map without_slabs x ≡ option_map (bare d) o → IsSome o → IsSome x
 some_stays (Some x) d o e some = refl
@@ -61,9 +61,9 @@ module _ (s : Content) (t : ℕ) (layout : Cut) (pattern : List ℕ) (w : IsSlab
       least_is (λ x. x.number) 0 c m.caches h.caches_rise (omega arith)
       (none_mapped (cache_of m c) (h.caches c ∙ ap (option_map (bare c)) k.vacant)) (λ d _ less. there_too d (k.least d less))
 
-  number_beyond : IsAllUsed s t → MOST_CACHES ≤ next_number m
+  number_beyond : IsAllUsed s t → MAX_CACHES ≤ next_number m
   unfolding next_number
-  number_beyond full = least_above (λ x. x.number) 0 MOST_CACHES m.caches h.caches_rise (λ d _ less. there_too d (full d less))
+  number_beyond full = least_above (λ x. x.number) 0 MAX_CACHES m.caches h.caches_rise (λ d _ less. there_too d (full d less))
 
   made_shows : (c : ℕ) → IsLeastNumber s t c
       → ShowsMachine r b (with_cache s t c (Some (new_cache layout pattern))) t (created c layout.size layout.align pattern m)
@@ -82,23 +82,23 @@ module _ (s : Content) (t : ℕ) (layout : Cut) (pattern : List ℕ) (w : IsSlab
       (λ d differ. found_put (λ x. x.number) new d m.caches absent ∙ ap (λ v. cond v (Some new) (cache_of m d)) (ne_eqb c d (λ e. differ (sym e))))
 
   pub record IsCreated (s' : Content) (result : Option ℕ) : Type 0 where
-    pub answer : result ≡ (create_step MOST_CACHES layout.size layout.align pattern m).answer
-    pub shows : ShowsMachine r b s' t (create_step MOST_CACHES layout.size layout.align pattern m).machine
+    pub answer : result ≡ (create_step MAX_CACHES layout.size layout.align pattern m).answer
+    pub shows : ShowsMachine r b s' t (create_step MAX_CACHES layout.size layout.align pattern m).machine
 
   pub created_as : (s' : Content) (result : Option ℕ) → MatchOption result (IsAllUsed s t) (IsLeastNumber s t)
       → IfSome result (λ c. s' ≡ with_cache s t c (Some (new_cache layout pattern))) → IfNone result (s' ≡ s) → IsCreated s' result
   created_as s' None full made same =
-      let step = next_none MOST_CACHES layout.size layout.align pattern m (number_beyond full) in
+      let step = next_none MAX_CACHES layout.size layout.align pattern m (number_beyond full) in
       record {
         answer = sym (ap (λ x. x.answer) step);
-        shows = subst (λ x. ShowsMachine r b x t (create_step MOST_CACHES layout.size layout.align pattern m).machine) (sym same)
+        shows = subst (λ x. ShowsMachine r b x t (create_step MAX_CACHES layout.size layout.align pattern m).machine) (sym same)
             (subst (λ x. ShowsMachine r b s t x.machine) (sym step) h);
       }
   created_as s' (Some c) k made same =
-      let step = next_is MOST_CACHES layout.size layout.align pattern m c (number_is c k) k.below in
+      let step = next_is MAX_CACHES layout.size layout.align pattern m c (number_is c k) k.below in
       record {
         answer = sym (ap (λ x. x.answer) step);
-        shows = subst (λ x. ShowsMachine r b x t (create_step MOST_CACHES layout.size layout.align pattern m).machine) (sym made)
+        shows = subst (λ x. ShowsMachine r b x t (create_step MAX_CACHES layout.size layout.align pattern m).machine) (sym made)
             (subst (λ x. ShowsMachine r b (with_cache s t c (Some (new_cache layout pattern))) t x.machine) (sym step) (made_shows c k));
       }
 

@@ -10,7 +10,7 @@ use Rattle.model_core.specs.Slabs.{cache_of, is_full, is_partial, is_empty, zero
 use Rattle.model_core.specs.Operations.{refuse}
 use Rattle.model_core.specs.CacheOperations.{frames_of, destroy_of, destroy_step}
 use Rattle.model_core.specs.WellFormed.{RisesFrom}
-use Rattle.model_core.specs.declared.limits.TheConstants.{MOST_CACHES}
+use Rattle.model_core.specs.declared.limits.TheConstants.{MAX_CACHES}
 use Rattle.model_core.specs.declared.refusals.DestroyRefusal.TheVariants.{NoCache, CacheInUse}
 use Rattle.model_core.specs.Elements.{IsIn}
 use Rattle.model_core.proofs.Lists.{each_from, each_in, none_any, any_none, find_in, filter_rises}
@@ -97,10 +97,10 @@ module _ (r : spaces.Content) (b : buddies.Content) (s : Content) (t c : ℕ) (w
   pub unused_of : (x : Cache) → cache_of m c ≡ Some x → list_any (λ y. not (is_empty y)) x.slabs ≡ false → IsUnused s t c
   unused_of x ex none = (not_kind 0 (omega arith), not_kind 1 (omega arith))
     where
-      under : (k n key : ℕ) → k < 3 → place_at s.lists.places n ≡ Some (head_of t c k, key) → machine_frame_of s.top r.slots (index_of_cache t c / MOST_CACHES) key ≡ Some n
+      under : (k n key : ℕ) → k < 3 → place_at s.lists.places n ≡ Some (head_of t c k, key) → machine_frame_of s.top r.slots (index_of_cache t c / MAX_CACHES) key ≡ Some n
       under k n key less placed =
           let there = w.standing n (head_of t c k) key placed in
-          let tenant : head_of t c k / 3 / MOST_CACHES ≡ index_of_cache t c / MOST_CACHES = omega arith in
+          let tenant : head_of t c k / 3 / MAX_CACHES ≡ index_of_cache t c / MAX_CACHES = omega arith in
           subst (λ u. machine_frame_of s.top r.slots u key ≡ Some n) tenant (a.slabs n (head_of t c k) key there.0 placed there.1).under
 
       not_kind : (k : ℕ) → k < 2 → IsEmpty s.lists.places (head_of t c k)
@@ -140,7 +140,7 @@ pub no_cache_step : (r : spaces.Content) (b : buddies.Content) (s : Content) (t 
 no_cache_step r b s t c m h vacant = step_none c m (no_cache r b s t c m h vacant)
 
 -- the index of cache c of a tenant lies within the table of caches
-pub among_all : (r : spaces.Content) (b : buddies.Content) (s : Content) (t c : ℕ) → Agree r b s → t < length r.slots → c < MOST_CACHES
+pub among_all : (r : spaces.Content) (b : buddies.Content) (s : Content) (t c : ℕ) → Agree r b s → t < length r.slots → c < MAX_CACHES
     → index_of_cache t c < length s.caches
 among_all r b s t c a tenant small =
     let rows = a.rows in
@@ -150,7 +150,7 @@ among_all r b s t c a tenant small =
 -- cache c of tenant t has no slab, and its index lies within the table of caches
 pub record IsLeft (s : Content) (t c : ℕ) : Type 0 where
   pub bare : IsBare s (index_of_cache t c)
-  pub small : c < MOST_CACHES
+  pub small : c < MAX_CACHES
   pub within : index_of_cache t c < length s.caches
 
 pub left_of : {r r' : spaces.Content} {b b' : buddies.Content} {s s' : Content} {t : ℕ} (c : ℕ) {cache : own.Cache} → cache_at s t c ≡ Some cache

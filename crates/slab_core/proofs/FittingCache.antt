@@ -5,7 +5,7 @@ use Rattle.std.proofs.Math.Nat.{div-mul-le_self, div-lt_iff_lt-mul}
 use Rattle.std.proofs.lemmas.Nat.{pow_pos}
 use Rattle.std.proofs.lemmas.Bool.{cases_lt, cases_eq, ne_eqb}
 use Rattle.model_core.specs.Blocks.{around}
-use Rattle.model_core.specs.declared.limits.TheConstants.{MOST_CACHES}
+use Rattle.model_core.specs.declared.limits.TheConstants.{MAX_CACHES}
 use Rattle.klist_core.specs.Places.{place_at, NoneAbove, IsNext}
 use Rattle.space_core.specs.Content as spaces
 use Rattle.buddy_core.specs.Content as buddies
@@ -44,11 +44,11 @@ module _ {r : spaces.Content} {b : buddies.Content} {s : Content} {t c k : ℕ} 
   next_is is e = subst (λ o. MatchOption o (WouldFitAround r b s t c k → ⊥) (λ p. IsNextSlab r b s t c k p.0 p.1)) e is.rest
 
   module _ {slab machine_frame : ℕ} (here : IsNextSlab r b s t c k slab machine_frame) where
-    pub slab_small : IsSlabs s → Agree r b s → IsSteady r b s t → c < MOST_CACHES → slab < 65536
+    pub slab_small : IsSlabs s → Agree r b s → IsSteady r b s t → c < MAX_CACHES → slab < 65536
     slab_small w a st less = let taken = listed_taken r b s t c slab machine_frame w a less here.placed in st.few slab taken.0 taken.1
 
     -- the slab's first frame is below the number of machine frames
-    pub slab_within : IsSlabs s → Agree r b s → IsSteady r b s t → buddies.IsSized b → t < length b.tenants → c < MOST_CACHES → slab < length s.lists.places
+    pub slab_within : IsSlabs s → Agree r b s → IsSteady r b s t → buddies.IsSized b → t < length b.tenants → c < MAX_CACHES → slab < length s.lists.places
     slab_within w a st sized lt less =
         let taken = listed_taken r b s t c slab machine_frame w a less here.placed in
         let held = ap is_some (a.slots t (slab / 2 ^ s.top)) ∙ (st.sound.placed slab taken.0 taken.1).1 in

@@ -9,7 +9,7 @@ use Rattle.model_core.specs.Blocks.{block, HasFrame, IsAligned, IsTaken, IsChoic
 use Rattle.model_core.specs.Machine.{Cache, Machine, choice}
 use Rattle.model_core.specs.Slabs.{cache_of, grown}
 use Rattle.model_core.specs.Layouts.{IsLayout, is_small, in_object, object_place, pattern_byte}
-use Rattle.model_core.specs.declared.limits.TheConstants.{MOST_CACHES}
+use Rattle.model_core.specs.declared.limits.TheConstants.{MAX_CACHES}
 use Rattle.model_core.proofs.BlocksApart.{has_first, in_block-true}
 use Rattle.klist_core.specs.Places.{place_at}
 use Rattle.space_core.specs.Content as spaces
@@ -171,7 +171,7 @@ module _ {r : spaces.Content} {b : buddies.Content} {s : Content} {t c : ℕ} {c
   fresh x e =
       let small = (in_table s t c cache cached).number in
       let there = w.standing x (head_of t c 2) f e in
-      let tenant_of : head_of t c 2 / 3 / MOST_CACHES ≡ t = omega arith in
+      let tenant_of : head_of t c 2 / 3 / MAX_CACHES ≡ t = omega arith in
       let taken = (a.slabs x (head_of t c 2) f there.0 e there.1).taken in
       not_first (layout_numbers there.0).order (subst (λ u. buddies.taken_of (buddies.holding_of u b) f ≡ Some (layout_numbers there.0).order) tenant_of taken)
 
@@ -182,7 +182,7 @@ module _ {r : spaces.Content} {b : buddies.Content} {s : Content} {t c : ℕ} {c
       let rest : f % 2 ^ s.top < 2 ^ s.top = mod_below f (2 ^ s.top) (pow_pos s.top) in
       omega (arith, owned, rest, mul-le-mul_right (2 ^ s.top) owned, a.superblocks, a.machine_frames, there.2, ap (λ x. x * 2 ^ s.top) a.superblocks)
 
-  small : c < MOST_CACHES
+  small : c < MAX_CACHES
   small = (in_table s t c cache cached).number
 
   among : index_of_cache t c < length s.caches
@@ -257,7 +257,7 @@ module _ {r : spaces.Content} {b : buddies.Content} {s : Content} {t c : ℕ} {c
       top = refl;
       under = under;
       caches = λ i other. in_other s t c (Some (made_more cache)) small among i
-          (λ e. other (let same : i / MOST_CACHES ≡ t = tenant_is i t c e small in same));
+          (λ e. other (let same : i / MAX_CACHES ≡ t = tenant_is i t c e small in same));
       lists = λ x differ. get_or-set_other s.lists.places n x (Some (head_of t c 2, f)) None differ;
       kept = λ x differ. get_or-set_other s.kept n x (fresh_kept cache) _ differ;
     }
@@ -282,8 +282,8 @@ module _ {r : spaces.Content} {b : buddies.Content} {s : Content} {t c : ℕ} {c
 
     new_agrees : IsAgreed r' reserved s' n (head_of t c 2) f (made_more cache)
     new_agrees =
-        let below : c < MOST_CACHES = small in
-        let tenant_of : head_of t c 2 / 3 / MOST_CACHES ≡ t = omega arith in
+        let below : c < MAX_CACHES = small in
+        let tenant_of : head_of t c 2 / 3 / MAX_CACHES ≡ t = omega arith in
         let few_objects = (cut.fits 0).few in
         record {
           under = subst (λ u. machine_frame_of s.top r'.slots u f ≡ Some n) (sym tenant_of)
@@ -300,7 +300,7 @@ module _ {r : spaces.Content} {b : buddies.Content} {s : Content} {t c : ℕ} {c
 
     -- the parts still agree on every other slab of tenant t
     stays : (x head key : ℕ) (other : own.Cache) → x ≢ n → place_at s.lists.places x ≡ Some (head, key) → cache_in s.caches (head / 3) ≡ Some other
-        → head / 3 / MOST_CACHES ≡ t → IsAgreed r' reserved s' x head key other
+        → head / 3 / MAX_CACHES ≡ t → IsAgreed r' reserved s' x head key other
     stays x head key other away placed old e =
         let g : IsAgreed r b s x head key other = a.slabs x head key other placed old in
         let here : machine_frame_of s.top r.slots t key ≡ Some x = subst (λ u. machine_frame_of s.top r.slots u key ≡ Some x) e g.under in
@@ -309,7 +309,7 @@ module _ {r : spaces.Content} {b : buddies.Content} {s : Content} {t c : ℕ} {c
         let differ : key ≡ f → ⊥ = λ same. away (some_same (sym here ∙ ap (machine_frame_of s.top r.slots t) same ∙ under)) in
         let taken : buddies.taken_of (buddies.holding_of t b) key ≡ Some (layout_numbers there.1).order = (chosen.steady.stands there.0 key x there.1 q).taken in
         agreed_still r r' b reserved s s' x head key other ((w.fits (head / 3) other old).layout.fits 0).few g
-        (ap (λ y. machine_frame_of s.top y.slots (head / 3 / MOST_CACHES) key) built.space)
+        (ap (λ y. machine_frame_of s.top y.slots (head / 3 / MAX_CACHES) key) built.space)
         (subst (λ u. buddies.taken_of (buddies.holding_of u reserved) key ≡ buddies.taken_of (buddies.holding_of u b) key) (sym e)
         (taken_now key ∙ ap (λ v. cond v (Some k) (buddies.taken_of (buddies.holding_of t b) key)) (ne_eqb key f differ)))
         (alone.kept x away)
@@ -325,7 +325,7 @@ module _ {r : spaces.Content} {b : buddies.Content} {s : Content} {t c : ℕ} {c
         ))))) less))
 
     mine : (x head key : ℕ) (other : own.Cache) → place_at s'.lists.places x ≡ Some (head, key) → cache_in s'.caches (head / 3) ≡ Some other
-        → head / 3 / MOST_CACHES ≡ t → IsAgreed r' reserved s' x head key other
+        → head / 3 / MAX_CACHES ≡ t → IsAgreed r' reserved s' x head key other
     mine x head key other placed now e = ⊎_elim new old (cases_eq x n)
       where
         made_at : (i : ℕ) → i ≡ index_of_cache t c → cache_in s'.caches i ≡ Some other → made_more cache ≡ other
@@ -335,7 +335,7 @@ module _ {r : spaces.Content} {b : buddies.Content} {s : Content} {t c : ℕ} {c
 
         new : x ≡ n → IsAgreed r' reserved s' x head key other
         new same =
-            let below : c < MOST_CACHES = small in
+            let below : c < MAX_CACHES = small in
             let both : ◌≡◌ {A = ℕ × ℕ} (head_of t c 2, f) (head, key) = some_same (sym placed_now ∙ ap (place_at s'.lists.places) (sym same) ∙ placed) in
             let is_head : head_of t c 2 ≡ head = ap (λ (p : ℕ × ℕ). p.0) both in
             let is_key : f ≡ key = ap (λ (p : ℕ × ℕ). p.1) both in
@@ -362,7 +362,7 @@ module _ {r : spaces.Content} {b : buddies.Content} {s : Content} {t c : ℕ} {c
         (length-set s.caches (index_of_cache t c) (Some (made_more cache)))
         (λ v. ap (λ h. buddies.superblock_at h v) holding_now)
         (λ head key placed.
-        let below : c < MOST_CACHES = small in
+        let below : c < MAX_CACHES = small in
         let same : head_of t c 2 ≡ head = ap (λ (p : ℕ × ℕ). p.0) (some_same (sym placed_now ∙ placed)) in omega arith)
         mine
 

@@ -4,7 +4,7 @@ use Rattle.std.proofs.Math.Nat.{pow-le-pow_right}
 use Rattle.std.proofs.lemmas.Bool.{false≢true, cases_lt}
 use Rattle.std.proofs.lemmas.Nat.{pow_pos}
 use Rattle.model_core.specs.Blocks.{block, HasFrame}
-use Rattle.model_core.specs.declared.limits.TheConstants.{MOST_CACHES}
+use Rattle.model_core.specs.declared.limits.TheConstants.{MAX_CACHES}
 use Rattle.space_core.specs.Content as spaces
 use Rattle.buddy_core.specs.Content as buddies
 use Rattle.klist_core.specs.Places.{place_at}
@@ -82,11 +82,11 @@ module _ (r : spaces.Content) (b : buddies.Content) (s : Content) (t : ℕ) (st 
         false≢true (sym busy ∙ ap (idle_at (λ n. true) r s t) (sym same) ∙ idle_begins r s t f i)
 
 -- a taken block of tenant t begins at the first frame of each slab in the list of empty slabs of cache c
-pub listed_taken : (r : spaces.Content) (b : buddies.Content) (s : Content) (t c f n : ℕ) → IsSlabs s → Agree r b s → c < MOST_CACHES
+pub listed_taken : (r : spaces.Content) (b : buddies.Content) (s : Content) (t c f n : ℕ) → IsSlabs s → Agree r b s → c < MAX_CACHES
     → place_at s.lists.places n ≡ Some (head_of t c 2, f) → (k : ℕ) × (buddies.taken_of (buddies.holding_of t b) f ≡ Some k)
 listed_taken r b s t c f n w a less placed =
     let kept = w.standing n (head_of t c 2) f placed in
-    let tenant : head_of t c 2 / 3 / MOST_CACHES ≡ t = omega arith in (
+    let tenant : head_of t c 2 / 3 / MAX_CACHES ≡ t = omega arith in (
       (layout_numbers kept.0).order,
       subst (λ u. buddies.taken_of (buddies.holding_of u b) f ≡ Some (layout_numbers kept.0).order) tenant
           (a.slabs n (head_of t c 2) f kept.0 placed kept.1).taken,

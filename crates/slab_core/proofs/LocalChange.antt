@@ -4,7 +4,7 @@ use Rattle.std.proofs.Common.{◌≡◌, ◌≢◌, ℕ, ◌+◌, ◌*◌, ◌/�
 use Rattle.std.proofs.lemmas.Bool.{cases_eq}
 use Rattle.std.proofs.lemmas.List.{length-set}
 use Rattle.model_core.specs.Layouts.{is_small}
-use Rattle.model_core.specs.declared.limits.TheConstants.{MOST_CACHES}
+use Rattle.model_core.specs.declared.limits.TheConstants.{MAX_CACHES}
 use Rattle.klist_core.specs.Places.{place_at}
 use Rattle.space_core.specs.Content as spaces
 use Rattle.space_core.specs.Laws.{IsSameFor, IsOneToOne, SpareStays}
@@ -29,26 +29,26 @@ pub record IsLocal (r r' : spaces.Content) (b b' : buddies.Content) (s s' : Cont
   pub buddy : b' ≡ buddies.with_holding t (buddies.holding_of t b') b
   pub top : s'.top ≡ s.top
   pub under : machine_frame_of s.top r.slots t first ≡ Some machine_frame
-  pub caches : (i : ℕ) → (i / MOST_CACHES ≡ t → ⊥) → cache_in s'.caches i ≡ cache_in s.caches i
+  pub caches : (i : ℕ) → (i / MAX_CACHES ≡ t → ⊥) → cache_in s'.caches i ≡ cache_in s.caches i
   pub lists : (n : ℕ) → n ≢ machine_frame → place_at s'.lists.places n ≡ place_at s.lists.places n
   pub kept : (n : ℕ) → n ≢ machine_frame → kept_at s'.kept n ≡ kept_at s.kept n
 
 -- the parts still agree on a slab if its machine frame, its taken block, its stored state and its live objects have not changed
 pub agreed_still : (r r' : spaces.Content) (b b' : buddies.Content) (s s' : Content) (machine_frame head key : ℕ) (cache : own.Cache)
     → (layout_numbers cache).count ≤ 256 → IsAgreed r b s machine_frame head key cache
-    → machine_frame_of s'.top r'.slots (head / 3 / MOST_CACHES) key ≡ machine_frame_of s.top r.slots (head / 3 / MOST_CACHES) key
-    → buddies.taken_of (buddies.holding_of (head / 3 / MOST_CACHES) b') key ≡ buddies.taken_of (buddies.holding_of (head / 3 / MOST_CACHES) b) key
+    → machine_frame_of s'.top r'.slots (head / 3 / MAX_CACHES) key ≡ machine_frame_of s.top r.slots (head / 3 / MAX_CACHES) key
+    → buddies.taken_of (buddies.holding_of (head / 3 / MAX_CACHES) b') key ≡ buddies.taken_of (buddies.holding_of (head / 3 / MAX_CACHES) b) key
     → kept_at s'.kept machine_frame ≡ kept_at s.kept machine_frame
-    → ((i : ℕ) → i < 256 → is_live r' (head / 3 / MOST_CACHES) cache (kept_at s.kept machine_frame) key i ≡ is_live r (head / 3 / MOST_CACHES) cache (kept_at s.kept machine_frame) key i)
+    → ((i : ℕ) → i < 256 → is_live r' (head / 3 / MAX_CACHES) cache (kept_at s.kept machine_frame) key i ≡ is_live r (head / 3 / MAX_CACHES) cache (kept_at s.kept machine_frame) key i)
     → IsAgreed r' b' s' machine_frame head key cache
 agreed_still r r' b b' s s' machine_frame head key cache few g under taken kept live = record {
   under = under ∙ g.under;
   taken = taken ∙ g.taken;
   counted = ap (λ k. k.live) kept ∙ g.counted
-      ∙ sym (ap (λ k. count_true (live_of r' (head / 3 / MOST_CACHES) cache k key)) kept
-      ∙ ap count_true (same_below 0 (layout_numbers cache).count (is_live r' (head / 3 / MOST_CACHES) cache (kept_at s.kept machine_frame) key)
-      (is_live r (head / 3 / MOST_CACHES) cache (kept_at s.kept machine_frame) key) (λ i low high. live i (omega arith))));
-  rest = λ i low high. ap (λ k. is_live r' (head / 3 / MOST_CACHES) cache k key i) kept ∙ live i high ∙ g.rest i low high;
+      ∙ sym (ap (λ k. count_true (live_of r' (head / 3 / MAX_CACHES) cache k key)) kept
+      ∙ ap count_true (same_below 0 (layout_numbers cache).count (is_live r' (head / 3 / MAX_CACHES) cache (kept_at s.kept machine_frame) key)
+      (is_live r (head / 3 / MAX_CACHES) cache (kept_at s.kept machine_frame) key) (λ i low high. live i (omega arith))));
+  rest = λ i low high. ap (λ k. is_live r' (head / 3 / MAX_CACHES) cache k key i) kept ∙ live i high ∙ g.rest i low high;
 }
 
 module _ (r r' : spaces.Content) (b b' : buddies.Content) (s s' : Content) (t first machine_frame : ℕ) (k : IsLocal r r' b b' s s' t first machine_frame)
@@ -78,13 +78,13 @@ module _ (r r' : spaces.Content) (b b' : buddies.Content) (s s' : Content) (t fi
   module _ (w : IsSlabs s) (a : Agree r b s)
       (machine_frames : length s'.lists.places ≡ length s.lists.places) (tables : length s'.caches ≡ length s.caches)
       (slots : (v : ℕ) → buddies.superblock_at (buddies.holding_of t b') v ≡ buddies.superblock_at (buddies.holding_of t b) v)
-      (here : (head key : ℕ) → place_at s'.lists.places machine_frame ≡ Some (head, key) → head / 3 / MOST_CACHES ≡ t)
+      (here : (head key : ℕ) → place_at s'.lists.places machine_frame ≡ Some (head, key) → head / 3 / MAX_CACHES ≡ t)
       (mine : (n head key : ℕ) (cache : own.Cache) → place_at s'.lists.places n ≡ Some (head, key) → cache_in s'.caches (head / 3) ≡ Some cache
-      → head / 3 / MOST_CACHES ≡ t → IsAgreed r' b' s' n head key cache) where
+      → head / 3 / MAX_CACHES ≡ t → IsAgreed r' b' s' n head key cache) where
     other_agreed : (n head key : ℕ) (cache : own.Cache) → place_at s'.lists.places n ≡ Some (head, key) → cache_in s'.caches (head / 3) ≡ Some cache
-        → (head / 3 / MOST_CACHES ≡ t → ⊥) → IsAgreed r' b' s' n head key cache
+        → (head / 3 / MAX_CACHES ≡ t → ⊥) → IsAgreed r' b' s' n head key cache
     other_agreed n head key cache placed cached differ =
-        let u : ℕ = head / 3 / MOST_CACHES in
+        let u : ℕ = head / 3 / MAX_CACHES in
         let away : n ≢ machine_frame = λ e. differ (here head key (ap (place_at s'.lists.places) (sym e) ∙ placed)) in
         let was : cache_in s.caches (head / 3) ≡ Some cache = sym (k.caches (head / 3) differ) ∙ cached in
         let keeps : Keeps r r' b b' s s' u = keeps_other u differ in
@@ -110,8 +110,8 @@ module _ (r r' : spaces.Content) (b b' : buddies.Content) (s s' : Content) (t fi
       machine_frames = machine_frames ∙ a.machine_frames ∙ sym (ap (λ x. x.superblocks * 2 ^ s'.top) k.buddy ∙ ap (λ top. b.superblocks * 2 ^ top) k.top);
       rows = ap (λ x. length x.slots) k.space ∙ a.rows ∙ sym (ap (λ x. length x.tenants) k.buddy ∙ length-set b.tenants t (buddies.holding_of t b'));
       tenants = tables ∙ a.tenants
-          ∙ sym (ap (λ x. MOST_CACHES * length x.tenants) k.buddy ∙ ap (λ n. MOST_CACHES * n) (length-set b.tenants t (buddies.holding_of t b')));
+          ∙ sym (ap (λ x. MAX_CACHES * length x.tenants) k.buddy ∙ ap (λ n. MAX_CACHES * n) (length-set b.tenants t (buddies.holding_of t b')));
       slots = slots_now;
       slabs = λ n head key cache placed cached.
-          ⊎_elim (mine n head key cache placed cached) (other_agreed n head key cache placed cached) (cases_eq (head / 3 / MOST_CACHES) t);
+          ⊎_elim (mine n head key cache placed cached) (other_agreed n head key cache placed cached) (cases_eq (head / 3 / MAX_CACHES) t);
     }

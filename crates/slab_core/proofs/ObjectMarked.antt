@@ -3,7 +3,7 @@ use Rattle.std.proofs.Common.{◌≡◌, ◌≢◌, ℕ, ◌+◌, ◌*◌, ◌/�
 use Rattle.std.specs.Prelude.{◌==◌, ◌&&◌, if◌then◌else◌}
 use Rattle.std.proofs.lemmas.Bool.{cases_eq}
 use Rattle.std.proofs.lemmas.List.{length-set, get_or-set_same, get_or-set_other, set-get_or}
-use Rattle.model_core.specs.declared.limits.TheConstants.{MOST_CACHES}
+use Rattle.model_core.specs.declared.limits.TheConstants.{MAX_CACHES}
 use Rattle.model_core.specs.Layouts.{is_small}
 use Rattle.klist_core.specs.Places.{place_at}
 use Rattle.space_core.specs.Content as spaces
@@ -73,7 +73,7 @@ module _ {r : spaces.Content} {b : buddies.Content} {s : Content} {t c f n i : �
       let few = p.few in
       let index : head_of t c p.kind / 3 ≡ index_of_cache t c = (head_parts t c p.kind p.few).0 in
       let below = h.below in
-      let tenant : head_of t c p.kind / 3 / MOST_CACHES ≡ t = omega arith in
+      let tenant : head_of t c p.kind / 3 / MAX_CACHES ≡ t = omega arith in
       let x = a.slabs m (head_of t c p.kind) f cache p.placed (ap (cache_in s.caches) index ∙ h.cached) in
       some_same (sym (ap (λ u. machine_frame_of s.top r.slots u f) (sym tenant) ∙ x.under) ∙ q.under)
 
@@ -94,7 +94,7 @@ module _ {r : spaces.Content} {b : buddies.Content} {s : Content} {t c f n i : �
     index_now : head_now / 3 ≡ index_of_cache t c
     index_now = (head_parts t c kind (kind_below (layout_numbers cache).count count)).0
 
-    tenant_now : head_now / 3 / MOST_CACHES ≡ t
+    tenant_now : head_now / 3 / MAX_CACHES ≡ t
     tenant_now = let e = index_now in let below = h.below in omega arith
 
     place_now : place_at s'.lists.places n ≡ Some (head_now, f)
@@ -166,7 +166,7 @@ module _ {r : spaces.Content} {b : buddies.Content} {s : Content} {t c f n i : �
 
     -- the parts still agree on each other slab of the tenant
     other_slab : (machine_frame head key : ℕ) (cache' : own.Cache) → machine_frame ≢ n → place_at s.lists.places machine_frame ≡ Some (head, key) → cache_in s.caches (head / 3) ≡ Some cache'
-        → head / 3 / MOST_CACHES ≡ t → IsAgreed r' b s' machine_frame head key cache'
+        → head / 3 / MAX_CACHES ≡ t → IsAgreed r' b s' machine_frame head key cache'
     other_slab machine_frame head key cache' other place cached tenant =
         let x = a.slabs machine_frame head key cache' place cached in
         let under : machine_frame_of s.top r.slots t key ≡ Some machine_frame = subst (λ u. machine_frame_of s.top r.slots u key ≡ Some machine_frame) tenant x.under in
@@ -177,7 +177,7 @@ module _ {r : spaces.Content} {b : buddies.Content} {s : Content} {t c f n i : �
         (ap byte_or_zero (k.bytes (4096 * key + 4064 + j / 8) (λ m less' e. differ (omega arith))))))
 
     mine : (machine_frame head key : ℕ) (cache' : own.Cache) → place_at s'.lists.places machine_frame ≡ Some (head, key) → cache_in s.caches (head / 3) ≡ Some cache'
-        → head / 3 / MOST_CACHES ≡ t → IsAgreed r' b s' machine_frame head key cache'
+        → head / 3 / MAX_CACHES ≡ t → IsAgreed r' b s' machine_frame head key cache'
     mine machine_frame head key cache' place cached tenant = elim (cases_eq machine_frame n) [
       | inl same ↦
           let at = same_place place_now (ap (place_at s'.lists.places) (sym same) ∙ place) in
@@ -194,5 +194,5 @@ module _ {r : spaces.Content} {b : buddies.Content} {s : Content} {t c f n i : �
       marked = marked;
       spares = spares_of r r' b b s s' t f n local laws.apart;
       agree = agree_of r r' b b s s' t f n local laws.apart w a (length-set s.lists.places n (Some (head_now, f))) refl (λ u. refl)
-          (λ head key place. ap (λ (x : ℕ). x / 3 / MOST_CACHES) (sym (same_place place_now place).0) ∙ tenant_now) mine;
+          (λ head key place. ap (λ (x : ℕ). x / 3 / MAX_CACHES) (sym (same_place place_now place).0) ∙ tenant_now) mine;
     }

@@ -9,7 +9,7 @@ use Rattle.model_core.specs.Blocks.{Block, block, HasFrame, IsAligned, IsTaken, 
 use Rattle.model_core.specs.Choice.{choose}
 use Rattle.model_core.specs.Machine.{Machine, choice}
 use Rattle.model_core.specs.Operations.{with_block}
-use Rattle.model_core.specs.declared.limits.TheConstants.{MOST_CACHES}
+use Rattle.model_core.specs.declared.limits.TheConstants.{MAX_CACHES}
 use Rattle.model_core.proofs.BlocksApart.{has_first}
 use Rattle.model_core.proofs.BlockChoice.{choice_is_found}
 use Rattle.space_core.specs.Content as spaces
@@ -117,13 +117,13 @@ module _ (r : spaces.Content) (b : buddies.Content) (s : Content) (t k : ℕ) (a
           superblocks = a.superblocks;
           machine_frames = a.machine_frames;
           rows = a.rows ∙ sym rows;
-          tenants = a.tenants ∙ ap (λ n. MOST_CACHES * n) (sym rows);
+          tenants = a.tenants ∙ ap (λ n. MAX_CACHES * n) (sym rows);
           slots = slots_now;
           slabs = λ machine_frame head key cache placed cached.
               let g : IsAgreed r b s machine_frame head key cache = a.slabs machine_frame head key cache placed cached in
               record {
                 under = g.under;
-                taken = stays (head / 3 / MOST_CACHES) key (layout_numbers cache).order g.taken;
+                taken = stays (head / 3 / MAX_CACHES) key (layout_numbers cache).order g.taken;
                 counted = g.counted;
                 rest = g.rest;
               };

@@ -3,7 +3,7 @@ use Rattle.std.proofs.Common.{◌≡◌, ℕ, ◌+◌, ◌/◌, ◌%◌, ◌<◌
 use Rattle.std.specs.Prelude.{Option, ◌==◌, ◌&&◌}
 use Rattle.std.proofs.lemmas.Bool.{cases_eq, cases_lt, false≢true, eqb-true, eq-eqb, and_parts, and_from, false_from_ne_true}
 use Rattle.std.proofs.lemmas.List.{set-set, set-get_or, set_past, get_or-set_same, get_or-set_other}
-use Rattle.model_core.specs.declared.limits.TheConstants.{MOST_CACHES}
+use Rattle.model_core.specs.declared.limits.TheConstants.{MAX_CACHES}
 use Rattle.klist_core.specs.Places.{place_at, IsEmpty}
 use Rattle.space_core.specs.Content as spaces
 use Rattle.buddy_core.specs.Content as buddies
@@ -231,7 +231,7 @@ kind_empty count live kind two e = go (live == count) (live == 0) refl e
 pub record IsInEmpty (s : Content) (t : ℕ) (these : ℕ → Bool) (f : ℕ) : Type 0 where
   pub number : ℕ
   pub machine_frame : ℕ
-  pub small : number < MOST_CACHES
+  pub small : number < MAX_CACHES
   pub one : these (index_of_cache t number) ≡ true
   pub placed : place_at s.lists.places machine_frame ≡ Some (head_of t number 2, f)
 
@@ -240,10 +240,10 @@ module _ {r : spaces.Content} {b : buddies.Content} {s : Content} {t : ℕ} (w :
       → IsEmptySlab r s t c first machine_frame cache
   listed_empty {c = c} {first = first} {machine_frame = machine_frame} {cache = cache} cached placed =
       let is : IsInTable s t c cache = in_table s t c cache cached in
-      let small : c < MOST_CACHES = is.number in
+      let small : c < MAX_CACHES = is.number in
       let index : head_of t c 2 / 3 ≡ index_of_cache t c = omega arith in
       let kind : head_of t c 2 % 3 ≡ 2 = omega arith in
-      let tenant : head_of t c 2 / 3 / MOST_CACHES ≡ t = omega arith in
+      let tenant : head_of t c 2 / 3 / MAX_CACHES ≡ t = omega arith in
       let at : cache_in s.caches (head_of t c 2 / 3) ≡ Some cache = ap (cache_in s.caches) index ∙ is.cached in
       let there = w.standing machine_frame (head_of t c 2) first placed in
       let under : machine_frame_of s.top r.slots t first ≡ Some machine_frame =
@@ -283,7 +283,7 @@ module _ {r : spaces.Content} {s : Content} {t c : ℕ} where
       (eq-eqb (p.head / 3) (index_of_cache t c) p.index) is.empty
 
 pub none_idle : {r : spaces.Content} {b : buddies.Content} {s : Content} (t c : ℕ) → IsSlabs s → Agree r b s → IsOneToOne r
-    → c < MOST_CACHES → IsEmpty s.lists.places (head_of t c 2) → (f : ℕ) → idle_at (this t c) r s t f ≡ true → ⊥
+    → c < MAX_CACHES → IsEmpty s.lists.places (head_of t c 2) → (f : ℕ) → idle_at (this t c) r s t f ≡ true → ⊥
 none_idle {r = r} {b = b} {s = s} t c w a apart small none f e =
     let i = idle_listed w a (λ g n head key. slab_listed r b s w a t g n head key apart) (this t c) f e in
     let index : index_of_cache t i.number ≡ index_of_cache t c = eqb-true (index_of_cache t i.number) (index_of_cache t c) i.one in
@@ -297,13 +297,13 @@ any_idle r s t c f e =
     idle_is (λ x. true) r s t f i.machine_frame i.head i.key i.under i.place refl i.empty
 
 pub none_any : {r : spaces.Content} {b : buddies.Content} {s : Content} (t : ℕ) → IsSlabs s → Agree r b s → IsOneToOne r
-    → ((d : ℕ) → d < MOST_CACHES → IsEmpty s.lists.places (head_of t d 2)) → (f : ℕ) → idle_at (λ i. true) r s t f ≡ true → ⊥
+    → ((d : ℕ) → d < MAX_CACHES → IsEmpty s.lists.places (head_of t d 2)) → (f : ℕ) → idle_at (λ i. true) r s t f ≡ true → ⊥
 none_any {r = r} {b = b} {s = s} t w a apart none f e =
     let i = idle_listed w a (λ g n head key. slab_listed r b s w a t g n head key apart) (λ x. true) f e in
     none i.number i.small i.machine_frame f i.placed
 
 -- if cache c does not exist, its list of empty slabs is empty
-pub no_cache : (s : Content) (t c : ℕ) → IsSlabs s → c < MOST_CACHES → cache_at s t c ≡ None → IsEmpty s.lists.places (head_of t c 2)
+pub no_cache : (s : Content) (t c : ℕ) → IsSlabs s → c < MAX_CACHES → cache_at s t c ≡ None → IsEmpty s.lists.places (head_of t c 2)
 no_cache s t c w small vacant n key placed =
     bare_without s t c w small vacant n (head_of t c 2) key placed (omega arith)
 
@@ -330,7 +330,7 @@ below_next {r' = r'} {s' = s'} {s'' = s''} {t = t} {c = c} st g k spares agree t
 
 -- if cache c does not exist, and `IsGivingBelow` is true for c, it is true for c + 1
 pub below_none : {r r' : spaces.Content} {b b' : buddies.Content} {s s' : Content} {t c : ℕ} → IsGivingBelow r r' b b' s s' t c
-    → c < MOST_CACHES → cache_at s' t c ≡ None → IsGivingBelow r r' b b' s s' t (c + 1)
+    → c < MAX_CACHES → cache_at s' t c ≡ None → IsGivingBelow r r' b b' s s' t (c + 1)
 below_none {s' = s'} {t = t} {c = c} g small vacant = record {
   giving = g.giving;
   lists = λ d less. ⊎_elim (g.lists d)

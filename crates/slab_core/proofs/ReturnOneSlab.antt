@@ -6,7 +6,7 @@ use Rattle.std.proofs.lemmas.List.{length-set, get_or-set_same, get_or-set_other
 use Rattle.std.proofs.lemmas.Nat.{pow_pos}
 use Rattle.std.proofs.Math.Nat.{pow-le-pow_right}
 use Rattle.model_core.specs.Blocks.{block, HasFrame}
-use Rattle.model_core.specs.declared.limits.TheConstants.{MOST_CACHES}
+use Rattle.model_core.specs.declared.limits.TheConstants.{MAX_CACHES}
 use Rattle.model_core.proofs.BlocksApart.{in_block-from, in_block-true}
 use Rattle.klist_core.specs.Places.{place_at}
 use Rattle.klist_core.proofs.PlacesChanged.{placed_within}
@@ -140,7 +140,7 @@ module _ {r : spaces.Content} {b : buddies.Content} {s : Content} {t c f n : ℕ
 
     -- the parts still agree on each remaining slab of tenant t
     stays : (x head key : ℕ) (other : own.Cache) → place_at (without_slab s n).lists.places x ≡ Some (head, key)
-        → cache_in s.caches (head / 3) ≡ Some other → head / 3 / MOST_CACHES ≡ t → IsAgreed zeroed_space released (without_slab s n) x head key other
+        → cache_in s.caches (head / 3) ≡ Some other → head / 3 / MAX_CACHES ≡ t → IsAgreed zeroed_space released (without_slab s n) x head key other
     stays x head key other placed cached e =
         let away : x ≢ n = λ same. some_none (gone_now (Some (head, key)) (ap (place_at (without_slab s n).lists.places) (sym same) ∙ placed)) in
         let old : place_at s.lists.places x ≡ Some (head, key) = sym (alone.lists x away) ∙ placed in

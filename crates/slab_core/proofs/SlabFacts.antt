@@ -1,6 +1,6 @@
 -- Facts about a tenant's slab that hold if the parts agree: its list, its block, its layout and its live objects.
 use Rattle.std.proofs.Common.{◌≡◌, ℕ, ◌/◌, ◌<◌, ◌≤◌, false, Some, length, sym, ap, ◌∙◌, subst}
-use Rattle.model_core.specs.declared.limits.TheConstants.{MOST_CACHES}
+use Rattle.model_core.specs.declared.limits.TheConstants.{MAX_CACHES}
 use Rattle.model_core.specs.Layouts.{IsLayout, is_small}
 use Rattle.layout_core.proofs.SlabOrders.{few_objects}
 use Rattle.klist_core.specs.Places.{place_at}
@@ -18,7 +18,7 @@ pub record IsHeld (r : spaces.Content) (b : buddies.Content) (s : Content) (t c 
   pub head : ℕ
   pub index : head / 3 ≡ index_of_cache t c
   pub place : place_at s.lists.places n ≡ Some (head, f)
-  pub below : c < MOST_CACHES
+  pub below : c < MAX_CACHES
   pub cached : cache_in s.caches (index_of_cache t c) ≡ Some cache
   pub taken : buddies.taken_of (buddies.holding_of t b) f ≡ Some (layout_numbers cache).order
   pub layout : IsLayout cache.layout.size cache.layout.align (layout_numbers cache)

@@ -3,7 +3,7 @@ use Rattle.std.proofs.Common.{◌≡◌, ℕ, ◌/◌, ◌<◌, Some, sym, ap, �
 use Rattle.std.specs.Prelude.{if◌then◌else◌, ◌==◌}
 use Rattle.std.proofs.lemmas.Bool.{cases_eq, eq-eqb}
 use Rattle.klist_core.specs.Places.{place_at, IsEmpty, IsFirst}
-use Rattle.model_core.specs.declared.limits.TheConstants.{MOST_CACHES}
+use Rattle.model_core.specs.declared.limits.TheConstants.{MAX_CACHES}
 use Rattle.space_core.specs.Content as spaces
 use Rattle.buddy_core.specs.Content as buddies
 use Rattle.slab_tables.specs.declared.cache.Cache as own
@@ -20,7 +20,7 @@ module _ {r : spaces.Content} {b : buddies.Content} {s : Content} (t c : ℕ) {c
       let there = in_table s t c cache cached in
       let index : head_of t c kind / 3 ≡ index_of_cache t c = (head_parts t c kind few).0 in
       let here : cache_in s.caches (head_of t c kind / 3) ≡ Some cache = ap (cache_in s.caches) index ∙ there.cached in
-      let tenant : head_of t c kind / 3 / MOST_CACHES ≡ t = tenant_is (head_of t c kind / 3) t c index there.number in
+      let tenant : head_of t c kind / 3 / MAX_CACHES ≡ t = tenant_is (head_of t c kind / 3) t c index there.number in
       slab_from r s t c f n (head_of t c kind) cache there.number index here
       (sym (ap (λ u. machine_frame_of s.top r.slots u f) tenant) ∙ (a.slabs n (head_of t c kind) f cache place here).under) place
 

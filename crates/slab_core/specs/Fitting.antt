@@ -1,7 +1,7 @@
 -- Frames and blocks that would be free if all empty slabs were freed.
 use Rattle.std.specs.Prelude.{◌≡◌, ℕ, ◌+◌, ◌*◌, ◌/◌, ◌%◌, ◌^◌, ◌<◌, ◌≤◌, ◌==◌, Bool, true, List, Some, IsSome, slice_index}
 use Rattle.std.specs.Int.{bit_at}
-use Rattle.model_core.specs.declared.limits.TheConstants.{MOST_CACHES}
+use Rattle.model_core.specs.declared.limits.TheConstants.{MAX_CACHES}
 use Rattle.model_core.specs.Blocks.{Block, block, HasFrame, IsAligned, around, IsTaken, IsFree}
 use Rattle.klist_core.specs.Places.{place_at}
 use Rattle.space_core.specs.Content as spaces
@@ -48,7 +48,7 @@ pub record WouldFitAround (r : spaces.Content) (b : buddies.Content) (s : Conten
 
 -- some empty slab of tenant t begins in an aligned block of order k whose frames are not taken, except by empty slabs
 abbrev pub WouldFitInSlabs : spaces.Content → buddies.Content → Content → ℕ → ℕ → Type 0
-WouldFitInSlabs r b s t k = (c : ℕ) × (c < MOST_CACHES) × WouldFitAround r b s t c k
+WouldFitInSlabs r b s t k = (c : ℕ) × (c < MAX_CACHES) × WouldFitAround r b s t c k
 
 -- each block of order k whose number satisfies `these` has a taken frame that lies in no empty slab
 abbrev pub AreRefused : spaces.Content → buddies.Content → Content → ℕ → ℕ → (ℕ → Bool) → Type 0

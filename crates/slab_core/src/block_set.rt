@@ -4,7 +4,7 @@ ghost use Rattle.std.specs.Prelude.{◌≡◌, ℕ, ◌<◌, ◌*◌, ◌==◌, 
 ghost use Rattle.slab_core.specs.Fitting.{has_number};
 
 /// The number of words in a set with one bit for each frame that a tenant can have.
-pub(crate) const MOST_WORDS: usize = 1024;
+pub(crate) const MAX_WORDS: usize = 1024;
 
 /// Returns true if the set contains the block with this number.
 pub(crate) fn has_block(words: &[u64], number: u32) -> bool

@@ -1,7 +1,7 @@
 //! Decides whether a block would fit if all empty slabs were freed.
 
 ghost use Rattle.std.specs.Prelude.{◌≡◌, ◌↔◌, ℕ, ◌-◌, ◌*◌, ◌^◌, ◌<◌, ◌≤◌, true, false, is_some, length, MatchOption};
-ghost use Rattle.model_core.specs.declared.limits.TheConstants.{MOST_CACHES, MOST_ORDER};
+ghost use Rattle.model_core.specs.declared.limits.TheConstants.{MAX_CACHES, MAX_ORDER};
 ghost use Rattle.model_core.specs.Machine.{Machine, choice};
 ghost use Rattle.model_core.specs.Slabs.{reaped};
 ghost use Rattle.machine_changes.specs.Fitting.{WouldFit};
@@ -15,7 +15,7 @@ ghost use Rattle.slab_core.specs.Calls.{idle_at};
 ghost use Rattle.slab_core.specs.Fitting.{HasFreeBlock, IsUnusedFrame, IsBorder, IsUnusedTo, IsWhole, IsUnusedBlock, WouldFitAround, WouldFitInSlabs, AreRefused, has_number};
 
 use crate::Slabs;
-use crate::block_set::{MOST_WORDS, add_block, has_block};
+use crate::block_set::{MAX_WORDS, add_block, has_block};
 use crate::objects::machine_frame_in;
 use buddy_core::Buddy;
 use slab_tables::{Kind, Tables};
@@ -55,7 +55,7 @@ impl Slabs {
             buddy,
             tenant: t,
         };
-        has_free(buddy, t, k) || view.would_fit_in_slabs(&mut [0; MOST_WORDS], k)
+        has_free(buddy, t, k) || view.would_fit_in_slabs(&mut [0; MAX_WORDS], k)
     }
 
     /// Returns the same as [`Slabs::would_fit`], for a caller that has found no free block large enough. The set of blocks that
@@ -110,7 +110,7 @@ impl View<'_> {
     /// Returns true if some slab of the tenant is empty.
     fn has_empty_slab(self) -> bool
         requires { IsTenant self.tables.now self.tenant }
-        ensures { (result ≡ false) ↔ ((c : ℕ) → c < MOST_CACHES
+        ensures { (result ≡ false) ↔ ((c : ℕ) → c < MAX_CACHES
             → IsEmpty self.entry.tables.now.lists.places (head_of self.entry.tenant c 2)) }
     {
         self.tables.laws();
@@ -150,7 +150,7 @@ impl View<'_> {
     /// Each block that the search refuses is added to this set.
     fn would_fit_in_cache(self, refused: &mut [u64], c: u32, k: u8) -> bool
         requires tenant { self.tenant < length self.space.now.slots }
-        requires cache { c < MOST_CACHES }
+        requires cache { c < MAX_CACHES }
         requires order { k ≤ self.tables.now.top }
         requires words { length self.tables.now.lists.places ≤ 64 * length refused.old * 2 ^ k }
         requires parts { HoldTogether self.space.now self.buddy.now self.tables.now }

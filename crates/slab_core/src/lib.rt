@@ -30,7 +30,7 @@
 #![tactic(auto)]
 
 ghost use Rattle.std.specs.Prelude.{◌≡◌, ℕ, ◌≤◌, IfOk};
-ghost use Rattle.model_core.specs.declared.limits.TheConstants.{MOST_ORDER, MOST_SUPERBLOCKS, MOST_TENANTS};
+ghost use Rattle.model_core.specs.declared.limits.TheConstants.{MAX_ORDER, MAX_SUPERBLOCKS, MAX_TENANTS};
 ghost use Rattle.slab_tables.specs.Content.{IsSlabs, empty_tables};
 ghost use Rattle.machine_changes.specs.Laws.{ListsHold};
 
@@ -83,9 +83,9 @@ impl Slabs {
     ///
     /// Allocates all memory that the caches and slabs will ever use. Returns `AllocError` if the allocator refuses it.
     pub fn new(alloc: Global, order: u8, superblocks: u16, tenants: u8) -> Result<Slabs, AllocError>
-        requires order { order ≤ MOST_ORDER }
-        requires superblocks { superblocks ≤ MOST_SUPERBLOCKS }
-        requires tenants { tenants ≤ MOST_TENANTS }
+        requires order { order ≤ MAX_ORDER }
+        requires superblocks { superblocks ≤ MAX_SUPERBLOCKS }
+        requires tenants { tenants ≤ MAX_TENANTS }
         ensures { IfOk result (λ s. s ≡ empty_tables order superblocks tenants) }
     {
         let frames = usize::from(superblocks) << order;

@@ -1,7 +1,7 @@
 //! Finds the object that begins at a place, tests whether it is live, and marks it free.
 
 ghost use Rattle.std.specs.Prelude.{◌≡◌, ℕ, ◌*◌, ◌+◌, ◌/◌, ◌%◌, ◌^◌, ◌<◌, ◌≤◌, Some, length, IfSome, MatchOption, not, true, false};
-ghost use Rattle.model_core.specs.declared.limits.TheConstants.{FRAME_BYTES, RECORD_OFFSET, MOST_CACHES, MOST_ORDER};
+ghost use Rattle.model_core.specs.declared.limits.TheConstants.{FRAME_BYTES, RECORD_OFFSET, MAX_CACHES, MAX_ORDER};
 ghost use Rattle.model_core.specs.Blocks.{around};
 ghost use Rattle.slab_tables.specs.Content.{Content, IsSlabs, kept_at, cache_at, index_of_cache, layout_numbers};
 ghost use Rattle.machine_changes.specs.Records.{is_set};
@@ -117,7 +117,7 @@ pub(crate) fn machine_frame_in(tables: &Tables, space: &Space, t: u8, frame: u32
 #[inline(always)]
 fn machine_frame_under(frame: u32, slot: u32, superblock: u16, order: u8) -> u32
     requires slot { slot ≡ frame / 2 ^ order }
-    requires order { order ≤ MOST_ORDER }
+    requires order { order ≤ MAX_ORDER }
     ensures { result ≡ superblock * 2 ^ order + frame % 2 ^ order }
 {
     frame.wrapping_add(u32::from(superblock).wrapping_sub(slot) << order)
@@ -171,7 +171,7 @@ impl Slabs {
 
     /// Returns true if the slab exists and belongs to the cache.
     fn is_of_cache(&self, cache: TenantCache<'_>, slab: Slab) -> bool
-        requires cache { cache.number < MOST_CACHES }
+        requires cache { cache.number < MAX_CACHES }
         requires machine_frame { slab.machine_frame < length self.now.lists.places }
         ensures { result ≡ is_of_cache (index_of_cache cache.entry.tenant cache.entry.number) slab.first
             (place_at self.now.lists.places slab.machine_frame) }

@@ -1,7 +1,7 @@
 //! Frees empty slabs: zeroes their frames and returns them to the buddy system.
 
 ghost use Rattle.std.specs.Prelude.{◌≡◌, ℕ, ◌<◌, ◌≤◌, ◌^◌, ◌==◌, ◌↔◌, length, flat_map, Some, true, false, OnErr};
-ghost use Rattle.model_core.specs.declared.limits.TheConstants.{MOST_CACHES};
+ghost use Rattle.model_core.specs.declared.limits.TheConstants.{MAX_CACHES};
 ghost use Rattle.model_core.specs.Machine.{Machine};
 ghost use Rattle.model_core.specs.Slabs.{cache_of, empty_blocks};
 ghost use Rattle.model_core.specs.CacheOperations.{frames_of, reap_step, destroy_step};
@@ -154,7 +154,7 @@ impl Slabs {
     /// Returns true if some slab of cache `c` of tenant `t` has a live object.
     fn in_use(&self, t: u8, c: u32) -> bool
         requires tenant { IsTenant self.now t }
-        requires cache { c < MOST_CACHES }
+        requires cache { c < MAX_CACHES }
         ensures { (result ≡ false) ↔ IsUnused self.now t c }
     {
         0 < self.tables.count(t, c, Kind::Full) || 0 < self.tables.count(t, c, Kind::Partial)
@@ -176,7 +176,7 @@ impl Slabs {
     /// Returns the number of frames in empty slabs of cache `c` of tenant `t`, or 0 if there is no such cache.
     pub(crate) fn empty_frames_of(&self, t: u8, c: u32) -> u32
         requires tenant { IsTenant self.now t }
-        requires cache { c < MOST_CACHES }
+        requires cache { c < MAX_CACHES }
         ensures few { result ≤ 2 ^ 19 }
         ensures frames { (r : spaces.Content) (b : buddies.Content) (m : Machine) → Agree r b self.now → IsSteady r b self.now t
             → ShowsMachine r b self.now t m → result ≡ empty_frames_in (cache_of m c) }

@@ -1,7 +1,7 @@
 //! The rows of a report: one for each cache.
 
 ghost use Rattle.std.specs.Prelude.{◌≡◌, ◌<◌, length, option_map};
-ghost use Rattle.model_core.specs.declared.limits.TheConstants.{MOST_CACHES};
+ghost use Rattle.model_core.specs.declared.limits.TheConstants.{MAX_CACHES};
 ghost use Rattle.model_core.specs.Machine.{Machine};
 ghost use Rattle.model_core.specs.Slabs.{cache_of};
 ghost use Rattle.model_core.specs.Reports.{row_of_cache, rows_of_caches};
@@ -34,7 +34,7 @@ impl Slabs {
     /// Returns the row of cache `c` of tenant `t`, or `None` if there is no such cache.
     fn row(&self, t: u8, c: u8) -> Option<CacheRow>
         requires tenant { IsTenant self.now t }
-        requires cache { c < MOST_CACHES }
+        requires cache { c < MAX_CACHES }
         ensures { (r : spaces.Content) (b : buddies.Content) (m : Machine) → Agree r b self.now → IsSteady r b self.now t → ShowsMachine r b self.now t m
             → result ≡ option_map row_of_cache (cache_of m c) }
     {

@@ -3,7 +3,7 @@ use Rattle.std.proofs.Common.{◌≡◌, ℕ, ◌+◌, ◌*◌, ◌/◌, ◌%◌
 use Rattle.std.proofs.lemmas.Bool.{cases_eq, cases_lt, eqb-true, eqb-false, eq-eqb, ne_eqb, lt-ltb, le-ltb}
 use Rattle.std.proofs.lemmas.List.{length-set, get_or-set_same, get_or-set_other}
 use Rattle.klist_core.specs.Places.{Placed, place_at, is_in}
-use Rattle.model_core.specs.declared.limits.TheConstants.{MOST_CACHES}
+use Rattle.model_core.specs.declared.limits.TheConstants.{MAX_CACHES}
 use Rattle.slab_tables.specs.declared.cache.Cache.{Cache}
 use Rattle.slab_tables.specs.Content.{Content, IsSlabs, cache_in, cache_at, index_of_cache, is_of_index, live_total}
 use Rattle.slab_tables.specs.Changes.{IsEmptied, IsCleared, IsReset, unless_gone}
@@ -115,7 +115,7 @@ slabs_cleared s i lists w lt heads machine_frames places = record {
 -- The caches of tenant t with numbers below c are removed one after the other.
 
 abbrev pub those_below : ℕ → ℕ → ℕ → Bool
-those_below t c n = eqb (n / MOST_CACHES) t && ltb (n % MOST_CACHES) c
+those_below t c n = eqb (n / MAX_CACHES) t && ltb (n % MAX_CACHES) c
 
 abbrev pub IsEither : (ℕ → Bool) → (ℕ → Bool) → (ℕ → Bool) → Type 0
 IsEither f g h = (n : ℕ) → h n ≡ (f n || g n)
@@ -157,37 +157,37 @@ cleared_none s t = record {
 }
   where
     none : (n : ℕ) → those_below t 0 n ≡ false
-    none n = go (eqb (n / MOST_CACHES) t)
+    none n = go (eqb (n / MAX_CACHES) t)
       where
-        go : (b : Bool) → (b && ltb (n % MOST_CACHES) 0) ≡ false
-        go true = le-ltb (n % MOST_CACHES) 0 (omega arith)
+        go : (b : Bool) → (b && ltb (n % MAX_CACHES) 0) ≡ false
+        go true = le-ltb (n % MAX_CACHES) 0 (omega arith)
         go false = refl
 
     unless_none : (o : Option (ℕ × ℕ)) → unless_gone (those_below t 0) o ≡ o
     unless_none None = refl
     unless_none (Some (g, k)) = ap (λ b. cond b None (Some (g, k))) (none (g / 3))
 
-pub one_more : (t c : ℕ) → c < MOST_CACHES → IsEither (those_below t c) (this (index_of_cache t c)) (those_below t (c + 1))
-one_more t c lt n = elim (cases_eq (n / MOST_CACHES) t) [
+pub one_more : (t c : ℕ) → c < MAX_CACHES → IsEither (those_below t c) (this (index_of_cache t c)) (those_below t (c + 1))
+one_more t c lt n = elim (cases_eq (n / MAX_CACHES) t) [
   | inl is ↦ inside is
-  | inr ne ↦ ap (λ b. b && ltb (n % MOST_CACHES) (c + 1)) (ne_eqb (n / MOST_CACHES) t ne)
-      ∙ sym (ap (λ b. (b && ltb (n % MOST_CACHES) c) || this (index_of_cache t c) n) (ne_eqb (n / MOST_CACHES) t ne)
+  | inr ne ↦ ap (λ b. b && ltb (n % MAX_CACHES) (c + 1)) (ne_eqb (n / MAX_CACHES) t ne)
+      ∙ sym (ap (λ b. (b && ltb (n % MAX_CACHES) c) || this (index_of_cache t c) n) (ne_eqb (n / MAX_CACHES) t ne)
       ∙ ne_eqb n (index_of_cache t c) (λ e. ne (omega arith)))
 ]
   where
-    inside : n / MOST_CACHES ≡ t → those_below t (c + 1) n ≡ (those_below t c n || this (index_of_cache t c) n)
-    inside is = ap (λ b. b && ltb (n % MOST_CACHES) (c + 1)) (eq-eqb (n / MOST_CACHES) t is)
+    inside : n / MAX_CACHES ≡ t → those_below t (c + 1) n ≡ (those_below t c n || this (index_of_cache t c) n)
+    inside is = ap (λ b. b && ltb (n % MAX_CACHES) (c + 1)) (eq-eqb (n / MAX_CACHES) t is)
         ∙ (by_number
-        ∙ sym (ap (λ b. (b && ltb (n % MOST_CACHES) c) || this (index_of_cache t c) n) (eq-eqb (n / MOST_CACHES) t is)))
+        ∙ sym (ap (λ b. (b && ltb (n % MAX_CACHES) c) || this (index_of_cache t c) n) (eq-eqb (n / MAX_CACHES) t is)))
       where
-        by_number : ltb (n % MOST_CACHES) (c + 1) ≡ (ltb (n % MOST_CACHES) c || eqb n (index_of_cache t c))
-        by_number = elim (cases_lt (n % MOST_CACHES) c) [
-          | inl below ↦ lt-ltb (n % MOST_CACHES) (c + 1) (omega arith) ∙ sym (ap (λ b. b || eqb n (index_of_cache t c)) (lt-ltb (n % MOST_CACHES) c below))
+        by_number : ltb (n % MAX_CACHES) (c + 1) ≡ (ltb (n % MAX_CACHES) c || eqb n (index_of_cache t c))
+        by_number = elim (cases_lt (n % MAX_CACHES) c) [
+          | inl below ↦ lt-ltb (n % MAX_CACHES) (c + 1) (omega arith) ∙ sym (ap (λ b. b || eqb n (index_of_cache t c)) (lt-ltb (n % MAX_CACHES) c below))
           | inr from ↦ elim (cases_eq n (index_of_cache t c)) [
-            | inl same ↦ lt-ltb (n % MOST_CACHES) (c + 1) (omega arith)
-                ∙ sym (ap (λ b. b || eqb n (index_of_cache t c)) (le-ltb (n % MOST_CACHES) c from) ∙ eq-eqb n (index_of_cache t c) same)
-            | inr other ↦ le-ltb (n % MOST_CACHES) (c + 1) (omega arith)
-                ∙ sym (ap (λ b. b || eqb n (index_of_cache t c)) (le-ltb (n % MOST_CACHES) c from) ∙ ne_eqb n (index_of_cache t c) other)
+            | inl same ↦ lt-ltb (n % MAX_CACHES) (c + 1) (omega arith)
+                ∙ sym (ap (λ b. b || eqb n (index_of_cache t c)) (le-ltb (n % MAX_CACHES) c from) ∙ eq-eqb n (index_of_cache t c) same)
+            | inr other ↦ le-ltb (n % MAX_CACHES) (c + 1) (omega arith)
+                ∙ sym (ap (λ b. b || eqb n (index_of_cache t c)) (le-ltb (n % MAX_CACHES) c from) ∙ ne_eqb n (index_of_cache t c) other)
           ]
         ]
 
@@ -204,36 +204,36 @@ cleared_all s s' t c w none a = record {
 }
   where
     -- the tenant has no cache with number c or above
-    vacant : (n : ℕ) → n / MOST_CACHES ≡ t → c ≤ n % MOST_CACHES → cache_in s.caches n ≡ None
+    vacant : (n : ℕ) → n / MAX_CACHES ≡ t → c ≤ n % MAX_CACHES → cache_in s.caches n ≡ None
     vacant n own from =
-        let at : n ≡ index_of_cache t (n % MOST_CACHES) = omega arith in
-        ap (cache_in s.caches) at ∙ (sym (ap (λ b. cond b (cache_in s.caches (index_of_cache t (n % MOST_CACHES))) None) (lt-ltb (n % MOST_CACHES) MOST_CACHES (omega arith)))
-        ∙ none (n % MOST_CACHES) from)
+        let at : n ≡ index_of_cache t (n % MAX_CACHES) = omega arith in
+        ap (cache_in s.caches) at ∙ (sym (ap (λ b. cond b (cache_in s.caches (index_of_cache t (n % MAX_CACHES))) None) (lt-ltb (n % MAX_CACHES) MAX_CACHES (omega arith)))
+        ∙ none (n % MAX_CACHES) from)
 
-    same : (n : ℕ) → (n / MOST_CACHES ≡ t → c ≤ n % MOST_CACHES → ⊥) → those_below t c n ≡ eqb (n / MOST_CACHES) t
-    same n high = go (cases_eq (n / MOST_CACHES) t)
+    same : (n : ℕ) → (n / MAX_CACHES ≡ t → c ≤ n % MAX_CACHES → ⊥) → those_below t c n ≡ eqb (n / MAX_CACHES) t
+    same n high = go (cases_eq (n / MAX_CACHES) t)
       where
-        go : (n / MOST_CACHES ≡ t) ⊎ (n / MOST_CACHES ≡ t → ⊥) → those_below t c n ≡ eqb (n / MOST_CACHES) t
-        go (inl is) = elim (cases_lt (n % MOST_CACHES) c) [
-          | inl lt ↦ ap (λ b. eqb (n / MOST_CACHES) t && b) (lt-ltb (n % MOST_CACHES) c lt) ∙ (ap (λ b. b && true) (eq-eqb (n / MOST_CACHES) t is) ∙ sym (eq-eqb (n / MOST_CACHES) t is))
+        go : (n / MAX_CACHES ≡ t) ⊎ (n / MAX_CACHES ≡ t → ⊥) → those_below t c n ≡ eqb (n / MAX_CACHES) t
+        go (inl is) = elim (cases_lt (n % MAX_CACHES) c) [
+          | inl lt ↦ ap (λ b. eqb (n / MAX_CACHES) t && b) (lt-ltb (n % MAX_CACHES) c lt) ∙ (ap (λ b. b && true) (eq-eqb (n / MAX_CACHES) t is) ∙ sym (eq-eqb (n / MAX_CACHES) t is))
           | inr ge ↦ absurd (high is ge)
         ]
-        go (inr ne) = ap (λ b. b && ltb (n % MOST_CACHES) c) (ne_eqb (n / MOST_CACHES) t ne) ∙ sym (ne_eqb (n / MOST_CACHES) t ne)
+        go (inr ne) = ap (λ b. b && ltb (n % MAX_CACHES) c) (ne_eqb (n / MAX_CACHES) t ne) ∙ sym (ne_eqb (n / MAX_CACHES) t ne)
 
     some_differs : {x : Cache} {o : Option Cache} → o ≡ None → o ≡ Some x → ⊥
     some_differs {x} {o} e f = absurd (let g : ◌≡◌ {A = Option Cache} None (Some x) = sym e ∙ f in cc)
 
-    place_same : (n : ℕ) (o : Option (ℕ × ℕ)) → place_at s.lists.places n ≡ o → unless_gone (those_below t c) o ≡ unless_gone (λ i. eqb (i / MOST_CACHES) t) o
+    place_same : (n : ℕ) (o : Option (ℕ × ℕ)) → place_at s.lists.places n ≡ o → unless_gone (those_below t c) o ≡ unless_gone (λ i. eqb (i / MAX_CACHES) t) o
     place_same n None e = refl
     place_same n (Some (g, k)) e =
         let x = w.standing n g k e in
         ap (λ b. cond b None (Some (g, k))) (same (g / 3) (λ own from. some_differs (vacant (g / 3) own from) x.1))
 
-    cache_same : (n : ℕ) → cond (those_below t c n) None (cache_in s.caches n) ≡ cond (eqb (n / MOST_CACHES) t) None (cache_in s.caches n)
+    cache_same : (n : ℕ) → cond (those_below t c n) None (cache_in s.caches n) ≡ cond (eqb (n / MAX_CACHES) t) None (cache_in s.caches n)
     cache_same n = by_value (cache_in s.caches n) refl
       where
-        by_value : (o : Option Cache) → cache_in s.caches n ≡ o → cond (those_below t c n) None o ≡ cond (eqb (n / MOST_CACHES) t) None o
-        by_value None e = both (those_below t c n) (eqb (n / MOST_CACHES) t)
+        by_value : (o : Option Cache) → cache_in s.caches n ≡ o → cond (those_below t c n) None o ≡ cond (eqb (n / MAX_CACHES) t) None o
+        by_value None e = both (those_below t c n) (eqb (n / MAX_CACHES) t)
           where
             both : (a b : Bool) → cond {A = Option Cache} a None None ≡ cond b None None
             both true true = refl

@@ -5,7 +5,7 @@ use Rattle.std.proofs.lemmas.Bool.{cases_eq, eq-eqb, ne_eqb, lt-ltb}
 use Rattle.std.proofs.lemmas.List.{length-set, length-replicate, get_or-set_same, get_or-set_other, set-get_or, get_or_read}
 use Rattle.klist_core.specs.Places.{place_at}
 use Rattle.klist_core.proofs.PlacesChanged.{placed_within}
-use Rattle.model_core.specs.declared.limits.TheConstants.{MOST_CACHES, MOST_ORDER, MOST_SUPERBLOCKS, MOST_TENANTS}
+use Rattle.model_core.specs.declared.limits.TheConstants.{MAX_CACHES, MAX_ORDER, MAX_SUPERBLOCKS, MAX_TENANTS}
 use Rattle.model_core.proofs.Lists.{everywhere}
 use Rattle.slab_tables.specs.declared.cache.Cache.{Cache}
 use Rattle.slab_tables.specs.declared.cache.Kept.{Kept}
@@ -169,13 +169,13 @@ slabs_less s t c w below none = slabs_cache s (index_of_cache t c) None w below
     (λ machine_frame head key e is. absurd (none key machine_frame (placed_at s t c head key machine_frame e is)))
 
 -- the invariant holds after a cache is added under a free number
-pub slabs_more : (s : Content) (t c : ℕ) (cache : Cache) → IsSlabs s → c < MOST_CACHES → index_of_cache t c < length s.caches → cache_at s t c ≡ None → IsTableCache cache
+pub slabs_more : (s : Content) (t c : ℕ) (cache : Cache) → IsSlabs s → c < MAX_CACHES → index_of_cache t c < length s.caches → cache_at s t c ≡ None → IsTableCache cache
     → IsSlabs (with_cache s t c (Some cache))
 slabs_more s t c cache w lt below vacant fit = slabs_cache s (index_of_cache t c) (Some cache) w below
     (λ d e. subst IsTableCache (same_cache {o = Some cache} refl e) fit)
     (λ machine_frame head key e is.
     let x = w.standing machine_frame head key e in
-    let gone : cache_in s.caches (index_of_cache t c) ≡ None = sym (ap (λ b. cond b (cache_in s.caches (index_of_cache t c)) None) (lt-ltb c MOST_CACHES lt)) ∙ vacant in
+    let gone : cache_in s.caches (index_of_cache t c) ≡ None = sym (ap (λ b. cond b (cache_in s.caches (index_of_cache t c)) None) (lt-ltb c MAX_CACHES lt)) ∙ vacant in
     absurd (let f : ◌≡◌ {A = Option Cache} None (Some x.0) = sym gone ∙ (sym (ap (cache_in s.caches) is) ∙ x.1) in cc))
 
 -- a slab adds its live objects to the total of its own cache, and nothing to the total of any other cache
@@ -290,17 +290,17 @@ counting s t c cache first machine_frame count total k w tenant e p few read rea
     }
 
 -- the invariant holds for tables that have no caches and no slabs
-pub slabs_opening : (top superblocks tenants : ℕ) → top ≤ MOST_ORDER → superblocks ≤ MOST_SUPERBLOCKS → tenants ≤ MOST_TENANTS → IsSlabs (empty_tables top superblocks tenants)
+pub slabs_opening : (top superblocks tenants : ℕ) → top ≤ MAX_ORDER → superblocks ≤ MAX_SUPERBLOCKS → tenants ≤ MAX_TENANTS → IsSlabs (empty_tables top superblocks tenants)
 slabs_opening top superblocks tenants order few_superblocks few_tenants = record {
   order = order;
   paired = length-replicate machine_frames blank ∙ sym (length-replicate machine_frames unplaced);
   small = omega (arith, length-replicate machine_frames unplaced, small);
-  few = omega (arith, length-replicate (MOST_CACHES * tenants) uncached);
-  heads = omega (arith, length-replicate (MOST_CACHES * tenants) uncached);
-  totals = length-replicate (MOST_CACHES * tenants) 0 ∙ sym (length-replicate (MOST_CACHES * tenants) uncached);
-  fits = λ n c e. absurd (let f : ◌≡◌ {A = Option Cache} None (Some c) = sym (everywhere uncached (MOST_CACHES * tenants) n) ∙ e in cc);
+  few = omega (arith, length-replicate (MAX_CACHES * tenants) uncached);
+  heads = omega (arith, length-replicate (MAX_CACHES * tenants) uncached);
+  totals = length-replicate (MAX_CACHES * tenants) 0 ∙ sym (length-replicate (MAX_CACHES * tenants) uncached);
+  fits = λ n c e. absurd (let f : ◌≡◌ {A = Option Cache} None (Some c) = sym (everywhere uncached (MAX_CACHES * tenants) n) ∙ e in cc);
   standing = λ machine_frame head key e. absurd (let f : ◌≡◌ {A = Option (ℕ × ℕ)} None (Some (head, key)) = sym (everywhere unplaced machine_frames machine_frame) ∙ e in cc);
-  counted = λ n below. everywhere 0 (MOST_CACHES * tenants) n
+  counted = λ n below. everywhere 0 (MAX_CACHES * tenants) n
       ∙ sym (total_none n (replicate machine_frames unplaced) (replicate machine_frames blank) (λ i. ap (is_of_index n) (everywhere unplaced machine_frames i)));
 }
   where

@@ -3,7 +3,7 @@ use Rattle.std.proofs.Common.{◌≡◌, ℕ, ◌/◌, ◌%◌, ◌<◌, ◌≤�
 use Rattle.std.specs.Prelude.{IsSome}
 use Rattle.std.proofs.lemmas.Bool.{cases_lt, lt-ltb, le-ltb, ne_eqb, false≢true}
 use Rattle.klist_core.specs.Places.{place_at}
-use Rattle.model_core.specs.declared.limits.TheConstants.{MOST_CACHES}
+use Rattle.model_core.specs.declared.limits.TheConstants.{MAX_CACHES}
 use Rattle.slab_tables.specs.declared.cache.Cache.{Cache}
 use Rattle.slab_tables.specs.declared.tables.Tables.TheInside.{Inside}
 use Rattle.slab_tables.specs.Content.{Content, IsSlabs, IsListed, IsTenant, IsPlacedIn, kept_at, cache_in, cache_at, index_of_cache, head_of, kind_of, layout_numbers}
@@ -19,15 +19,15 @@ same_cache {c} {d} {o} a b = cc
 pub same_place : {g k h k' : ℕ} {o : Option (ℕ × ℕ)} → o ≡ Some (g, k) → o ≡ Some (h, k') → (g ≡ h) × (k ≡ k')
 same_place {g} {k} {h} {k'} {o} a b = let e : ◌≡◌ {A = ℕ × ℕ} (g, k) (h, k') = cc in (ap (λ (p : ℕ × ℕ). p.0) e, ap (λ (p : ℕ × ℕ). p.1) e)
 
--- an existing cache has a number below `MOST_CACHES`, and is in the table at its index
+-- an existing cache has a number below `MAX_CACHES`, and is in the table at its index
 pub record IsCached (s : Content) (t c : ℕ) (cache : Cache) : Type 0 where
-  pub below : c < MOST_CACHES
+  pub below : c < MAX_CACHES
   pub cached : cache_in s.caches (index_of_cache t c) ≡ Some cache
 
 pub cached : (s : Content) (t c : ℕ) (cache : Cache) → cache_at s t c ≡ Some cache → IsCached s t c cache
-cached s t c cache e = elim (cases_lt c MOST_CACHES) [
-  | inl lt ↦ record { below = lt; cached = sym (ap (λ b. cond b (cache_in s.caches (index_of_cache t c)) None) (lt-ltb c MOST_CACHES lt)) ∙ e }
-  | inr ge ↦ let none : cache_at s t c ≡ None = ap (λ b. cond b (cache_in s.caches (index_of_cache t c)) None) (le-ltb c MOST_CACHES ge) in absurd (let f : ◌≡◌ {A = Option Cache} None (Some cache) = sym none ∙ e in cc)
+cached s t c cache e = elim (cases_lt c MAX_CACHES) [
+  | inl lt ↦ record { below = lt; cached = sym (ap (λ b. cond b (cache_in s.caches (index_of_cache t c)) None) (lt-ltb c MAX_CACHES lt)) ∙ e }
+  | inr ge ↦ let none : cache_at s t c ≡ None = ap (λ b. cond b (cache_in s.caches (index_of_cache t c)) None) (le-ltb c MAX_CACHES ge) in absurd (let f : ◌≡◌ {A = Option Cache} None (Some cache) = sym none ∙ e in cc)
 ]
 
 -- dividing the number of a list by 3 gives the index of its cache, and the remainder is the kind of its slabs
@@ -41,13 +41,13 @@ placed_at s t c head key machine_frame e is =
     record { kind = head % 3; few = omega arith; placed = e ∙ ap (λ (x : ℕ). Some (x, key)) parts }
 
 -- each cache number of a tenant has an index within the table of caches
-pub cache_within : (s : Content) (t c : ℕ) → IsTenant s t → c < MOST_CACHES → index_of_cache t c < length s.caches
+pub cache_within : (s : Content) (t c : ℕ) → IsTenant s t → c < MAX_CACHES → index_of_cache t c < length s.caches
 cache_within s t c tenant lt = omega (arith, tenant)
 
-pub some_below : (s : Content) (t c : ℕ) → IsSome (cache_at s t c) → c < MOST_CACHES
-some_below s t c some = elim (cases_lt c MOST_CACHES) [
+pub some_below : (s : Content) (t c : ℕ) → IsSome (cache_at s t c) → c < MAX_CACHES
+some_below s t c some = elim (cases_lt c MAX_CACHES) [
   | inl lt ↦ lt
-  | inr ge ↦ absurd (false≢true (subst IsSome (ap (λ b. cond b (cache_in s.caches (index_of_cache t c)) None) (le-ltb c MOST_CACHES ge)) some))
+  | inr ge ↦ absurd (false≢true (subst IsSome (ap (λ b. cond b (cache_in s.caches (index_of_cache t c)) None) (le-ltb c MAX_CACHES ge)) some))
 ]
 
 -- the stored state of a slab of the cache fits the cache and the slab's list

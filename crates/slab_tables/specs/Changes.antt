@@ -1,6 +1,6 @@
 -- The changes that the calls make to the tables of caches and slabs.
 use Rattle.std.specs.Prelude.{◌≡◌, ℕ, ◌+◌, ◌-◌, ◌*◌, ◌/◌, ◌%◌, ◌^◌, ◌<◌, ◌==◌, Bool, List, Option, Some, None, length, slice_index, slice_set, if◌then◌else◌, IsSome}
-use Rattle.model_core.specs.declared.limits.TheConstants.{MOST_CACHES}
+use Rattle.model_core.specs.declared.limits.TheConstants.{MAX_CACHES}
 use Rattle.model_core.specs.Layouts.{colour_offset}
 use Rattle.layout_core.specs.Cut.{Cut}
 use Rattle.klist_core.specs.Places.{Placed, place_at, is_in, inserted, removed, replaced}
@@ -49,13 +49,13 @@ with_cache s t c cache = record s { caches = slice_set s.caches (index_of_cache 
 
 -- c is the least number below 32 that no cache of tenant t has
 pub record IsLeastNumber (s : Content) (t c : ℕ) : Type 0 where
-  pub below : c < MOST_CACHES
+  pub below : c < MAX_CACHES
   pub vacant : cache_at s t c ≡ None
   pub least : (d : ℕ) → d < c → IsSome (cache_at s t d)
 
 -- tenant t has a cache with each number from 0 to 31
 abbrev pub IsAllUsed : Content → ℕ → Type 0
-IsAllUsed s t = (d : ℕ) → d < MOST_CACHES → IsSome (cache_at s t d)
+IsAllUsed s t = (d : ℕ) → d < MAX_CACHES → IsSome (cache_at s t d)
 
 -- a cache with this layout and pattern that has made no slab
 abbrev pub new_cache : Cut → List ℕ → Cache
@@ -86,7 +86,7 @@ pub record IsCleared (s s' : Content) (gone : ℕ → Bool) : Type 0 where
 
 -- In s', tenant t has no cache and no slab. Everything else is as in s, except that `live` may differ.
 abbrev pub IsReset : Content → Content → ℕ → Type 0
-IsReset s s' t = IsCleared s s' (λ n. n / MOST_CACHES == t)
+IsReset s s' t = IsCleared s s' (λ n. n / MAX_CACHES == t)
 
 -- the tables after the slab at machine frame `from`, if there is one, is moved to machine frame `to` with its stored state
 abbrev pub with_slab_moved : Content → ℕ → ℕ → Content

@@ -1,6 +1,6 @@
 -- The tables of the caches and slabs of all tenants. A slab is named by the machine frame at which it begins.
 use Rattle.std.specs.Prelude.{◌≡◌, ℕ, ◌+◌, ◌*◌, ◌/◌, ◌%◌, ◌^◌, ◌<◌, ◌≤◌, ◌==◌, Bool, true, false, nat_lt, if◌then◌else◌, List, [], ◌∷◌, Option, Some, None, length, replicate, slice_index, slice_index_or}
-use Rattle.model_core.specs.declared.limits.TheConstants.{MOST_CACHES, MOST_ORDER}
+use Rattle.model_core.specs.declared.limits.TheConstants.{MAX_CACHES, MAX_ORDER}
 use Rattle.model_core.specs.Layouts.{Layout, IsLayout, is_size, is_alignment, is_pattern}
 use Rattle.layout_core.specs.Cut.{numbers_of}
 use Rattle.layout_core.specs.Objects.{IsColour}
@@ -34,15 +34,15 @@ cache_in caches n = slice_index_or caches n None
 
 -- the index of cache c of tenant t among the caches of all tenants
 abbrev pub index_of_cache : ℕ → ℕ → ℕ
-index_of_cache t c = MOST_CACHES * t + c
+index_of_cache t c = MAX_CACHES * t + c
 
 -- cache c of tenant t, or `None` if there is none
 abbrev pub cache_at : Content → ℕ → ℕ → Option Cache
-cache_at s t c = if nat_lt c MOST_CACHES then cache_in s.caches (index_of_cache t c) else None
+cache_at s t c = if nat_lt c MAX_CACHES then cache_in s.caches (index_of_cache t c) else None
 
 -- the tables have a tenant t
 abbrev pub IsTenant : Content → ℕ → Type 0
-IsTenant s t = index_of_cache t MOST_CACHES ≤ length s.caches
+IsTenant s t = index_of_cache t MAX_CACHES ≤ length s.caches
 
 -- the numbers of the cache's layout
 abbrev pub layout_numbers : Cache → Layout
@@ -90,7 +90,7 @@ live_total n (p ∷ places) (k ∷ kept) = (if is_of_index n p then k.live else 
 
 -- the invariant of the tables
 pub record IsSlabs (s : Content) : Type 0 where
-  pub order : s.top ≤ MOST_ORDER
+  pub order : s.top ≤ MAX_ORDER
   pub paired : length s.kept ≡ length s.lists.places
   pub small : length s.lists.places ≤ 2 ^ 16
   pub few : length s.caches ≤ 2 ^ 11
@@ -103,9 +103,9 @@ pub record IsSlabs (s : Content) : Type 0 where
 
 -- for each tenant, `below` has a number, at most 32, that is greater than the number of each of the tenant's caches
 pub record AreBelow (caches : List (Option Cache)) (below : List ℕ) : Type 0 where
-  pub tenants : length caches ≡ MOST_CACHES * length below
-  pub few : (t : ℕ) → slice_index below t ≤ MOST_CACHES
-  pub none : (n : ℕ) → slice_index below (n / MOST_CACHES) ≤ n % MOST_CACHES → cache_in caches n ≡ None
+  pub tenants : length caches ≡ MAX_CACHES * length below
+  pub few : (t : ℕ) → slice_index below t ≤ MAX_CACHES
+  pub none : (n : ℕ) → slice_index below (n / MAX_CACHES) ≤ n % MAX_CACHES → cache_in caches n ≡ None
 
 -- the invariant of the tables and of the numbers in `below`
 pub record AreTables (s : Content) (below : List ℕ) : Type 0 where
@@ -116,10 +116,10 @@ pub record AreTables (s : Content) (below : List ℕ) : Type 0 where
 abbrev pub empty_tables : ℕ → ℕ → ℕ → Content
 empty_tables top superblocks tenants = record {
   top = top;
-  lists = record { heads = MOST_CACHES * tenants * 3; places = replicate (superblocks * 2 ^ top) None };
+  lists = record { heads = MAX_CACHES * tenants * 3; places = replicate (superblocks * 2 ^ top) None };
   kept = replicate (superblocks * 2 ^ top) blank;
-  caches = replicate (MOST_CACHES * tenants) None;
-  live = replicate (MOST_CACHES * tenants) 0;
+  caches = replicate (MAX_CACHES * tenants) None;
+  live = replicate (MAX_CACHES * tenants) 0;
 }
 
 -- a slab of cache c of tenant t begins at frame `first` of the tenant, which is machine frame n

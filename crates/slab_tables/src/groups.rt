@@ -1,9 +1,9 @@
 //! Hints about where to look for the slabs of a list. Only the cost of changing a list depends on them.
 
 ghost use Rattle.std.specs.Prelude.{◌≡◌, ◌^◌, ◌<◌, ◌≤◌};
-ghost use Rattle.model_core.specs.declared.limits.TheConstants.{MOST_ORDER};
+ghost use Rattle.model_core.specs.declared.limits.TheConstants.{MAX_ORDER};
 
-use model_core::limits::{MOST_CACHES, MOST_SUPERBLOCKS};
+use model_core::limits::{MAX_CACHES, MAX_SUPERBLOCKS};
 use std::alloc::{AllocError, Global};
 
 /// The order of a group of frames. If superblocks have a lower order, a group has that order, so a group always lies in one slot.
@@ -40,13 +40,13 @@ impl Groups {
         superblocks: u16,
         tenants: u8,
     ) -> Result<Groups, AllocError>
-        requires { order ≤ MOST_ORDER }
+        requires { order ≤ MAX_ORDER }
     {
         let group = order.min(GROUP_ORDER);
         let groups = u32::from(superblocks) << (order - group);
         let span = (32 - (groups.saturating_sub(1) / 64).leading_zeros()) as u8;
-        let lists = 3 * usize::from(MOST_CACHES) * usize::from(tenants);
-        let slots = usize::from(MOST_SUPERBLOCKS) * usize::from(tenants);
+        let lists = 3 * usize::from(MAX_CACHES) * usize::from(tenants);
+        let slots = usize::from(MAX_SUPERBLOCKS) * usize::from(tenants);
         Ok(Groups {
             order,
             group,
@@ -181,7 +181,7 @@ impl Groups {
 
     /// Returns the index of the frame's slot among the slots of all tenants. The frame is in the numbering of the list's tenant.
     fn slot_of(&self, list: u32, frame: u32) -> usize {
-        let tenant = list as usize / (3 * usize::from(MOST_CACHES));
-        usize::from(MOST_SUPERBLOCKS) * tenant + (frame >> self.order) as usize
+        let tenant = list as usize / (3 * usize::from(MAX_CACHES));
+        usize::from(MAX_SUPERBLOCKS) * tenant + (frame >> self.order) as usize
     }
 }

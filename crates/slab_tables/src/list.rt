@@ -1,13 +1,13 @@
 //! The numbers of the lists of slabs.
 
 ghost use Rattle.std.specs.Prelude.{◌≡◌, ◌<◌, ◌/◌, ◌%◌, ◌==◌};
-ghost use Rattle.model_core.specs.declared.limits.TheConstants.{MOST_CACHES};
+ghost use Rattle.model_core.specs.declared.limits.TheConstants.{MAX_CACHES};
 ghost use Rattle.klist_core.specs.Places.{in_three};
 ghost use Rattle.slab_tables.specs.Content.{index_of_cache, head_of, kind_number};
 
 use crate::kind::Kind;
 use crate::places::index_of;
-use model_core::limits::MOST_CACHES;
+use model_core::limits::MAX_CACHES;
 
 /// A list with all slabs of one kind in a cache. The list of the full slabs has the number `3 * (32 * tenant + cache)`. The list
 /// of the partial slabs has the next number, and the list of the empty slabs has the number after that.
@@ -25,7 +25,7 @@ impl ListId {
     /// Returns the list of the slabs of this kind in cache `c` of tenant `t`.
     #[inline(always)]
     pub fn of(t: u8, c: u32, kind: Kind) -> ListId
-        requires { c < MOST_CACHES }
+        requires { c < MAX_CACHES }
         ensures { result.number ≡ head_of t c (kind_number kind) }
     {
         ListId {
@@ -35,9 +35,9 @@ impl ListId {
 
     /// Returns the number of the list's cache, from 0 to 31.
     pub fn cache(self) -> u32
-        ensures { result ≡ self.number / 3 % MOST_CACHES }
+        ensures { result ≡ self.number / 3 % MAX_CACHES }
     {
-        self.number / 3 % u32::from(MOST_CACHES)
+        self.number / 3 % u32::from(MAX_CACHES)
     }
 
     /// Returns true if this is one of the three lists of cache `c` of tenant `t`.
@@ -45,7 +45,7 @@ impl ListId {
     /// The subtraction wraps around, so one comparison excludes the lists before these three as well as those after them.
     #[inline(always)]
     pub fn is_of(self, t: u8, c: u32) -> bool
-        requires { c < MOST_CACHES }
+        requires { c < MAX_CACHES }
         ensures { result ≡ (self.number / 3 == index_of_cache t c) }
     {
         self.number.wrapping_sub(3 * index_of(t, c) as u32) < 3

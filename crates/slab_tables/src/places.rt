@@ -1,7 +1,7 @@
 //! The index of a cache among the caches of all tenants, and the lists of slabs with their hints.
 
 ghost use Rattle.std.specs.Prelude.{◌≡◌, ◌≢◌, ℕ, ◌+◌, ◌*◌, ◌^◌, ◌<◌, ◌≤◌, true, Some, None, length, replicate, IsSome, IfSome, IfOk, MatchOption};
-ghost use Rattle.model_core.specs.declared.limits.TheConstants.{MOST_ORDER, MOST_SUPERBLOCKS, MOST_TENANTS, MOST_CACHES};
+ghost use Rattle.model_core.specs.declared.limits.TheConstants.{MAX_ORDER, MAX_SUPERBLOCKS, MAX_TENANTS, MAX_CACHES};
 ghost use Rattle.klist_core.specs.Places.{IsByKey, IsPlacedByKey, IsEmpty, place_at, is_in, inserted, removed, replaced};
 ghost use Rattle.slab_tables.specs.Content.{index_of_cache, head_of, kind_of};
 ghost use Rattle.slab_tables.specs.Changes.{IsEmptied};
@@ -10,21 +10,21 @@ use crate::groups::Groups;
 use crate::kind::{Counts, Kind};
 use crate::list::ListId;
 use klist_core::{Lists, is_loose};
-use model_core::limits::MOST_CACHES;
+use model_core::limits::MAX_CACHES;
 use std::alloc::{AllocError, Global};
 use std::marker::Model;
 
 /// Returns the index of cache `c` of tenant `t` among the caches of all tenants.
 pub(crate) fn index_of(t: u8, c: u32) -> usize
-    requires { c < MOST_CACHES }
+    requires { c < MAX_CACHES }
     ensures { result ≡ index_of_cache t c }
 {
-    usize::from(MOST_CACHES) * usize::from(t) + c as usize
+    usize::from(MAX_CACHES) * usize::from(t) + c as usize
 }
 
 /// Returns the machine frame of frame `i` of the superblock, which has `2^order` frames.
 pub(crate) fn machine_frame_at(order: u8, superblock: u16, i: u32) -> u32
-    requires order { order ≤ MOST_ORDER }
+    requires order { order ≤ MAX_ORDER }
     requires frame { i < 2 ^ order }
     ensures { result ≡ superblock * 2 ^ order + i }
 {
@@ -65,13 +65,13 @@ impl SlabLists {
         superblocks: u16,
         tenants: u8,
     ) -> Result<SlabLists, AllocError>
-        requires order { order ≤ MOST_ORDER }
-        requires superblocks { superblocks ≤ MOST_SUPERBLOCKS }
-        requires tenants { tenants ≤ MOST_TENANTS }
-        ensures { IfOk result (λ s. s ≡ record { heads = MOST_CACHES * tenants * 3; places = replicate (superblocks * 2 ^ order) None }) }
+        requires order { order ≤ MAX_ORDER }
+        requires superblocks { superblocks ≤ MAX_SUPERBLOCKS }
+        requires tenants { tenants ≤ MAX_TENANTS }
+        ensures { IfOk result (λ s. s ≡ record { heads = MAX_CACHES * tenants * 3; places = replicate (superblocks * 2 ^ order) None }) }
     {
         let machine_frames = u32::from(superblocks) << order;
-        let caches = u32::from(MOST_CACHES) * u32::from(tenants);
+        let caches = u32::from(MAX_CACHES) * u32::from(tenants);
         Ok(SlabLists {
             lists: Lists::new(alloc, machine_frames, caches * 3)?,
             groups: Groups::new(alloc, order, superblocks, tenants)?,
@@ -198,7 +198,7 @@ impl SlabLists {
         key: u32,
         slab: u8,
     )
-        requires cache { c < MOST_CACHES }
+        requires cache { c < MAX_CACHES }
         requires to { head_of t c (kind_of counts.total counts.after) < self.old.heads }
         requires slab { slab ≤ 3 }
         requires placed { place_at self.old.places machine_frame ≡ Some (head_of t c (kind_of counts.total counts.before), key) }

@@ -3,7 +3,7 @@
 ghost use Rattle.std.specs.Prelude.{◌≡◌, ◌≢◌, ℕ, ◌<◌, ◌≤◌, ◌==◌, ◌^◌, ◌*◌, ◌+◌, Some, None, length, is_none, slice_index, option_map, IfOk, IfSome, IfNone, IsSome, MatchOption};
 ghost use Rattle.klist_core.specs.Places.{ArePlaces, IsEmpty, IsFirst, place_at, inserted};
 ghost use Rattle.klist_core.specs.Lists.{keys_of};
-ghost use Rattle.model_core.specs.declared.limits.TheConstants.{MOST_CACHES, MOST_ORDER, MOST_SUPERBLOCKS, MOST_TENANTS};
+ghost use Rattle.model_core.specs.declared.limits.TheConstants.{MAX_CACHES, MAX_ORDER, MAX_SUPERBLOCKS, MAX_TENANTS};
 ghost use Rattle.slab_tables.specs.Content.{IsSlabs, IsTenant, IsPlacedIn, empty_tables, kept_at, cache_at, index_of_cache, head_of, kind_number, layout_numbers};
 ghost use Rattle.slab_tables.specs.Changes.{with_new_slab, with_count, with_outside, without_slab, with_cache, new_cache, IsLeastNumber, IsAllUsed, IsCleared, IsReset, IsMoved, with_slab_moved};
 
@@ -13,7 +13,7 @@ use crate::list::ListId;
 use crate::places::{SlabLists, index_of, machine_frame_at};
 use klist_core::Lists;
 use layout_core::{Layout, Pattern};
-use model_core::limits::MOST_CACHES;
+use model_core::limits::MAX_CACHES;
 use std::alloc::{AllocError, Global};
 use std::marker::Model;
 
@@ -41,7 +41,7 @@ impl Model for Tables {
 
 impl Tables {
     /// Makes tables without caches or slabs, for `superblocks` superblocks of `2^order` frames and `tenants` tenants.
-    /// `superblocks` is at most `MOST_SUPERBLOCKS`, `order` at most `MOST_ORDER`, and `tenants` at most `MOST_TENANTS`.
+    /// `superblocks` is at most `MAX_SUPERBLOCKS`, `order` at most `MAX_ORDER`, and `tenants` at most `MAX_TENANTS`.
     ///
     /// Allocates all memory that will ever be used. Returns `AllocError` if the allocator refuses it.
     pub fn new(
@@ -50,13 +50,13 @@ impl Tables {
         superblocks: u16,
         tenants: u8,
     ) -> Result<Tables, AllocError>
-        requires order { order ≤ MOST_ORDER }
-        requires superblocks { superblocks ≤ MOST_SUPERBLOCKS }
-        requires tenants { tenants ≤ MOST_TENANTS }
+        requires order { order ≤ MAX_ORDER }
+        requires superblocks { superblocks ≤ MAX_SUPERBLOCKS }
+        requires tenants { tenants ≤ MAX_TENANTS }
         ensures { IfOk result (λ s. s ≡ empty_tables order superblocks tenants) }
     {
         let machine_frames = u32::from(superblocks) << order;
-        let caches = u32::from(MOST_CACHES) * u32::from(tenants);
+        let caches = u32::from(MAX_CACHES) * u32::from(tenants);
         let blank = Kept {
             colour: 0,
             live: 0,
@@ -100,7 +100,7 @@ impl Tables {
         requires { IsTenant self.now t }
         ensures { option_map (λ x. x.now) result ≡ cache_at self.now t c }
     {
-        if c >= u32::from(MOST_CACHES) {
+        if c >= u32::from(MAX_CACHES) {
             return None;
         }
         self.caches[index_of(t, c)].as_ref()
@@ -110,7 +110,7 @@ impl Tables {
     /// caches can end there.
     pub fn caches_below(&self, t: u8) -> u32
         requires { IsTenant self.now t }
-        ensures few { result ≤ MOST_CACHES }
+        ensures few { result ≤ MAX_CACHES }
         ensures none { (c : ℕ) → result ≤ c → cache_at self.now t c ≡ None }
     {
         u32::from(self.below[usize::from(t)])
@@ -137,7 +137,7 @@ impl Tables {
     /// Returns `None` if the cache has no slab of this kind. For full slabs the function searches all machine frames.
     pub fn first(&self, t: u8, c: u32, kind: Kind) -> Option<(u32, u32)>
         requires tenant { IsTenant self.now t }
-        requires cache { c < MOST_CACHES }
+        requires cache { c < MAX_CACHES }
         ensures { MatchOption result
             (IsEmpty self.now.lists.places (head_of t c (kind_number kind)))
             (λ p. IsFirst self.now.lists.places (head_of t c (kind_number kind)) p.0 p.1) }
@@ -152,7 +152,7 @@ impl Tables {
     /// Returns the number of slabs of this kind in cache `c` of tenant `t`.
     pub fn count(&self, t: u8, c: u32, kind: Kind) -> u32
         requires tenant { IsTenant self.now t }
-        requires cache { c < MOST_CACHES }
+        requires cache { c < MAX_CACHES }
         ensures { result ≡ length (keys_of self.now.lists.places (head_of t c (kind_number kind))) }
     {
         self.lists.lists().len(ListId::of(t, c, kind).number)
@@ -161,7 +161,7 @@ impl Tables {
     /// Returns the number of live objects of cache `c` of tenant `t`.
     pub fn live(&self, t: u8, c: u32) -> u32
         requires tenant { IsTenant self.now t }
-        requires cache { c < MOST_CACHES }
+        requires cache { c < MAX_CACHES }
         ensures { result ≡ slice_index self.now.live (index_of_cache t c) }
     {
         self.live[index_of(t, c)]
@@ -196,7 +196,7 @@ impl Tables {
         requires { IsTenant self.now t }
         ensures { MatchOption result (IsAllUsed self.now t) (IsLeastNumber self.now t) }
     {
-        for c in 0..MOST_CACHES {
+        for c in 0..MAX_CACHES {
             if self.cache(t, c.into()).is_none() {
                 return Some(c);
             }
@@ -313,7 +313,7 @@ impl Tables {
     /// Removes cache `c` of tenant `t`, if it exists, with its slabs.
     fn clear(&mut self, t: u8, c: u32)
         requires tenant { IsTenant self.old t }
-        requires cache { c < MOST_CACHES }
+        requires cache { c < MAX_CACHES }
         ensures { IsCleared self.old self.new (λ n. n == index_of_cache t c) }
     {
         self.lists.clear(ListId::of(t, c, Kind::Full).number);

@@ -16,7 +16,7 @@ mod pool;
 mod windows;
 
 ghost use Rattle.std.specs.Prelude.{◌≡◌, ◌*◌, ◌^◌, ◌≤◌, IfOk};
-ghost use Rattle.model_core.specs.declared.limits.TheConstants.{FRAME_BYTES, MOST_ORDER, MOST_SUPERBLOCKS, MOST_TENANTS};
+ghost use Rattle.model_core.specs.declared.limits.TheConstants.{FRAME_BYTES, MAX_ORDER, MAX_SUPERBLOCKS, MAX_TENANTS};
 ghost use Rattle.space_core.specs.Content.{empty_space};
 ghost use Rattle.space_core.specs.Tables.{stored_slots, stored_bytes};
 ghost use Rattle.space_core.specs.Laws.{SpaceLaws};
@@ -99,9 +99,9 @@ impl Space {
     ///
     /// Allocates all memory that will ever be used. Returns `AllocError` if the allocator refuses it.
     pub fn new(alloc: Global, order: u8, superblocks: u16, tenants: u8) -> Result<Space, AllocError>
-        requires order { order ≤ MOST_ORDER }
-        requires superblocks { superblocks ≤ MOST_SUPERBLOCKS }
-        requires tenants { tenants ≤ MOST_TENANTS }
+        requires order { order ≤ MAX_ORDER }
+        requires superblocks { superblocks ≤ MAX_SUPERBLOCKS }
+        requires tenants { tenants ≤ MAX_TENANTS }
         ensures { IfOk result (λ s. s ≡ empty_space (FRAME_BYTES * 2 ^ order) superblocks tenants) }
     {
         let unit = FRAME_BYTES << order;

@@ -130,7 +130,7 @@ impl Space {
         self.owners.iter().filter(|owner| owner.is_none()).count() as u16
     }
 
-    /// Returns the number of superblocks, at most `MOST_SUPERBLOCKS`.
+    /// Returns the number of superblocks, at most `MAX_SUPERBLOCKS`.
     pub fn superblocks(&self) -> u16
         ensures { result ≡ length self.now.owners }
     {
@@ -138,7 +138,7 @@ impl Space {
         self.owners.len() as u16
     }
 
-    /// Returns the number of tenants, at most `MOST_TENANTS`.
+    /// Returns the number of tenants, at most `MAX_TENANTS`.
     pub fn tenants(&self) -> u8
         ensures { result ≡ length self.now.slots }
     {

@@ -5,7 +5,7 @@ use crate::feed::{Feed, Stopped};
 use std::io::Read;
 
 /// The largest number of bytes that a feed made with [`ReaderFeed::new`] gives: 1 GiB.
-const MOST_TRACE_BYTES: u64 = 1 << 30;
+const MAX_TRACE_BYTES: u64 = 1 << 30;
 
 /// A feed over one of std's readers, with a limit on the number of its bytes: 1 GiB by default.
 ///
@@ -31,7 +31,7 @@ impl<R: Read> ReaderFeed<R> {
         ensures not_ended { ⟦<ReaderFeed<R> as Feed>⟧.has_ended result ≡ false }
         ensures fine { ⟦<ReaderFeed<R> as Feed>⟧.has_failed result ≡ false }
     {
-        ReaderFeed::with_room(reader, MOST_TRACE_BYTES)
+        ReaderFeed::with_room(reader, MAX_TRACE_BYTES)
     }
 
     /// Makes a feed that gives at most `room` bytes from this reader.

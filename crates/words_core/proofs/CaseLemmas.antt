@@ -14,8 +14,8 @@ use Rattle.words_core.specs.Commands.{or_fault, Form, Given, Maker, CommandRow, 
 use Rattle.words_core.specs.Grammar.{◌>>=◌, are_as_many, made_of, command_by, command_of, command_in_words, tenant_of, actor_of, event_of, reading_of_words, reading_within, reading_of}
 use Rattle.words_core.specs.Numbers.{value_of, number_of}
 use Rattle.words_core.specs.Words.{words_of}
-use Rattle.words_core.specs.declared.numbers.TheConstants.{MOST_DIGITS}
-use Rattle.words_core.specs.declared.line.TheConstants.{MOST_LINE_BYTES}
+use Rattle.words_core.specs.declared.numbers.TheConstants.{MAX_DIGITS}
+use Rattle.words_core.specs.declared.line.TheConstants.{MAX_LINE_BYTES}
 use Rattle.words_core.specs.declared.event.AdminCommand.{AdminCommand}
 use Rattle.words_core.specs.declared.event.Command.{Command}
 use Rattle.words_core.specs.declared.event.Event.{Event}
@@ -65,7 +65,7 @@ comment_is_no_number : (word : List ℕ) → IsComment word → number_of word �
 comment_is_no_number [] is = refl
 comment_is_no_number (b ∷ bytes) is = subst (λ (first : ℕ). number_of (first ∷ bytes) ≡ None) (sym is)
     (ap (λ test. if test then Some (value_of (35 ∷ bytes)) else None)
-    (fails_third (nat_lt 0 (length (35 ∷ bytes))) (nat_le (length (35 ∷ bytes)) MOST_DIGITS) (nat_lt (value_of (35 ∷ bytes)) (2 ^ 32))))
+    (fails_third (nat_lt 0 (length (35 ∷ bytes))) (nat_le (length (35 ∷ bytes)) MAX_DIGITS) (nat_lt (value_of (35 ∷ bytes)) (2 ^ 32))))
 
 names_no_comment : (word : List ℕ) (actor : Actor) → Names word actor → IsComment word → ⊥
 names_no_comment word administrator names is =
@@ -323,17 +323,17 @@ some_of_words (first ∷ rest) = by (cases_Bool (slice_index first 0 == 35)) (na
 -- ---- the line
 
 abbrev bytes_case : List ℕ → ℕ
-bytes_case bytes = if nat_lt MOST_LINE_BYTES (length bytes) then 1 else words_case (words_of bytes)
+bytes_case bytes = if nat_lt MAX_LINE_BYTES (length bytes) then 1 else words_case (words_of bytes)
 
 only_of_bytes : (number : ℕ) (bytes : List ℕ) (reading : Result (Option Event) LineFault) → CaseOfBytes number bytes reading
     → (bytes_case bytes ≡ number) × (reading_within (length bytes) (words_of bytes) ≡ reading)
 only_of_bytes number bytes reading (too_long long) =
-    let test : nat_lt MOST_LINE_BYTES (length bytes) ≡ true = grind (arith, nat_tests) in (
+    let test : nat_lt MAX_LINE_BYTES (length bytes) ≡ true = grind (arith, nat_tests) in (
       ap (λ test. if test then 1 else words_case (words_of bytes)) test,
       ap (λ test. if test then Err Long else reading_of_words (words_of bytes)) test,
     )
 only_of_bytes number bytes reading (of_words short words has says) =
-    let test : nat_lt MOST_LINE_BYTES (length bytes) ≡ false = grind (arith, nat_tests) in
+    let test : nat_lt MAX_LINE_BYTES (length bytes) ≡ false = grind (arith, nat_tests) in
     let (number_is, reading_is) = only_of_words number words reading says in
     let are : words_of bytes ≡ words = words_of-has bytes words has in (
       ap (λ test. if test then 1 else words_case (words_of bytes)) test ∙ ap words_case are ∙ number_is,
@@ -353,11 +353,11 @@ one_number line number other reading second is says =
     (sym second_number ∙ first_number, sym second_reading ∙ first_reading)
 
 pub says_reading : (line : List ℕ) → Says line (reading_of line)
-says_reading line = found (cases_Bool (nat_lt MOST_LINE_BYTES (length (strip_carriage_return line)))) where
+says_reading line = found (cases_Bool (nat_lt MAX_LINE_BYTES (length (strip_carriage_return line)))) where
   read : (reading : Result (Option Event) LineFault) → Says line reading → Says line (reading_of line)
   read reading says = subst (Says line) (only_reading line reading says) says
 
-  found : (nat_lt MOST_LINE_BYTES (length (strip_carriage_return line)) ≡ true) ⊎ (nat_lt MOST_LINE_BYTES (length (strip_carriage_return line)) ≡ false)
+  found : (nat_lt MAX_LINE_BYTES (length (strip_carriage_return line)) ≡ true) ⊎ (nat_lt MAX_LINE_BYTES (length (strip_carriage_return line)) ≡ false)
       → Says line (reading_of line)
   found (inl long) = read (Err Long) (1, too_long (grind (arith, nat_tests)))
   found (inr short) =

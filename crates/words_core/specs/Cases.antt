@@ -6,7 +6,7 @@ use Rattle.std.specs.Str.Lines.{strip_carriage_return}
 use Rattle.words_core.specs.Numbers.{number_of}
 use Rattle.words_core.specs.Words.{HasWords}
 use Rattle.words_core.specs.Commands.{Form, Given, Maker, CommandRow, read_as, Actor, administrator, tenant, CommandOf, command_rows, event_by, nobody_fault}
-use Rattle.words_core.specs.declared.line.TheConstants.{MOST_LINE_BYTES}
+use Rattle.words_core.specs.declared.line.TheConstants.{MAX_LINE_BYTES}
 use Rattle.words_core.specs.declared.event.Event.{Event}
 use Rattle.words_core.specs.declared.event.LineFault.{LineFault}
 
@@ -69,9 +69,9 @@ pub data CaseOfWords : ℕ → List (List ℕ) → Result (Option Event) LineFau
 -- meaning.
 pub data CaseOfBytes : ℕ → List ℕ → Result (Option Event) LineFault → Type 0 where
   -- 1. the line has more than 255 bytes: the fault is `Long`, even if the line is a comment
-  too_long : {bytes : List ℕ} → MOST_LINE_BYTES < length bytes → CaseOfBytes 1 bytes (Err LineFault.Long)
+  too_long : {bytes : List ℕ} → MAX_LINE_BYTES < length bytes → CaseOfBytes 1 bytes (Err LineFault.Long)
   -- 2 to 8. the line has at most 255 bytes: it is in the case of its words
-  of_words : {number : ℕ} {bytes : List ℕ} {reading : Result (Option Event) LineFault} → length bytes ≤ MOST_LINE_BYTES
+  of_words : {number : ℕ} {bytes : List ℕ} {reading : Result (Option Event) LineFault} → length bytes ≤ MAX_LINE_BYTES
       → (words : List (List ℕ)) → HasWords bytes words → CaseOfWords number words reading → CaseOfBytes number bytes reading
 
 -- the line is in the case with this number and has this meaning

@@ -4,7 +4,7 @@ use Rattle.std.specs.Char.{is_ascii_digit}
 use Rattle.arrayvec.specs.ArrayVec.{ArrayVec}
 use Rattle.hex.specs.Hex.{decode_of}
 use Rattle.hex.specs.declared.error.FromHexError.{FromHexError}
-use Rattle.model_core.specs.declared.limits.TheConstants.{MOST_BYTES, MOST_PATTERN}
+use Rattle.model_core.specs.declared.limits.TheConstants.{MAX_BYTES, MAX_PATTERN}
 use Rattle.words_core.specs.Numbers.{number_of}
 use Rattle.words_core.specs.declared.event.AdminCommand.{AdminCommand}
 use Rattle.words_core.specs.declared.event.Command.{Command}
@@ -81,10 +81,10 @@ abbrev pub read_row : CommandRow Command
 read_row = record { word = codes "read"; forms = number ∷ number ∷ []; makes = Command.Read }
 
 abbrev pub write_row : CommandRow Command
-write_row = record { word = codes "write"; forms = number ∷ hex MOST_BYTES ∷ []; makes = Command.Write }
+write_row = record { word = codes "write"; forms = number ∷ hex MAX_BYTES ∷ []; makes = Command.Write }
 
 abbrev pub cache_row : CommandRow Command
-cache_row = record { word = codes "cache"; forms = number ∷ number ∷ hex MOST_PATTERN ∷ []; makes = Command.Cache }
+cache_row = record { word = codes "cache"; forms = number ∷ number ∷ hex MAX_PATTERN ∷ []; makes = Command.Cache }
 
 abbrev pub destroy_row : CommandRow Command
 destroy_row = record { word = codes "destroy"; forms = number ∷ []; makes = Command.Destroy }

@@ -3,7 +3,7 @@
 use Rattle.std.specs.Prelude.{ℕ, Bool, true, false, List, [], ◌∷◌, length, slice_index, codes, nat_lt, ◌==◌, if◌then◌else◌, Option, Some, None, Result, Ok, Err}
 use Rattle.std.specs.Str.{bytes_eq}
 use Rattle.std.specs.Str.Lines.{strip_carriage_return}
-use Rattle.words_core.specs.declared.line.TheConstants.{MOST_LINE_BYTES}
+use Rattle.words_core.specs.declared.line.TheConstants.{MAX_LINE_BYTES}
 use Rattle.words_core.specs.Numbers.{number_of}
 use Rattle.words_core.specs.Commands.{or_fault, Form, Maker, CommandRow, read_as, Actor, administrator, tenant, command_rows, event_by, nobody_fault}
 use Rattle.words_core.specs.Words.{words_of}
@@ -76,7 +76,7 @@ reading_of_words (first ∷ rest) =
 
 -- the meaning of a line of `size` bytes with these words; if `size` is above 255, the meaning is the fault `Long`
 abbrev pub reading_within : ℕ → List (List ℕ) → Result (Option Event) LineFault
-reading_within size words = if nat_lt MOST_LINE_BYTES size then Err LineFault.Long else reading_of_words words
+reading_within size words = if nat_lt MAX_LINE_BYTES size then Err LineFault.Long else reading_of_words words
 
 -- The meaning of a line, as a function. One carriage return (byte 13) at its end is ignored.
 unfoldable pub reading_of : List ℕ → Result (Option Event) LineFault

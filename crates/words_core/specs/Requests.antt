@@ -1,9 +1,9 @@
 -- The command that a `Request` stands for, the reply that an `Answer` or a `Table` stands for, and tests of these three types.
 -- Values of these types borrow their bytes or rows.
 use Rattle.std.specs.Prelude.{◌≡◌, ℕ, ◌≤◌, Bool, true, false, if◌then◌else◌, length}
-use Rattle.model_core.specs.declared.limits.TheConstants.{MOST_BYTES, MOST_SUPERBLOCKS}
+use Rattle.model_core.specs.declared.limits.TheConstants.{MAX_BYTES, MAX_SUPERBLOCKS}
 use Rattle.model_core.specs.Layouts.{is_pattern}
-use Rattle.words_core.specs.declared.answer.TheConstants.{MOST_ANSWER_BYTES, SHORT_ANSWER_BYTES}
+use Rattle.words_core.specs.declared.answer.TheConstants.{MAX_ANSWER_BYTES, SHORT_ANSWER_BYTES}
 use Rattle.words_core.specs.declared.reply.Addressee.{Addressee}
 use Rattle.words_core.specs.declared.answer.Answer.{Answer}
 use Rattle.words_core.specs.declared.reply.Body.{Body}
@@ -75,12 +75,12 @@ reply_of_table (Table.Report tenant report) = record { addressee = Addressee.Ten
 
 -- a table of owners has no more rows than a machine may have superblocks
 abbrev pub HasFewRows : Table → Type 0
-HasFewRows (Table.Owners owners) = length owners.now ≤ MOST_SUPERBLOCKS
+HasFewRows (Table.Owners owners) = length owners.now ≤ MAX_SUPERBLOCKS
 HasFewRows (Table.Report tenant report) = Unit {0}
 
 -- if the answer has bytes that were read, it has at most 64 of them
 abbrev pub HasFewBytes : Answer → Type 0
-HasFewBytes (Answer.Bytes bytes) = length bytes.now ≤ MOST_BYTES
+HasFewBytes (Answer.Bytes bytes) = length bytes.now ≤ MAX_BYTES
 HasFewBytes (Answer.Frame frame) = Unit {0}
 HasFewBytes (Answer.Freed order) = Unit {0}
 HasFewBytes (Answer.Written count) = Unit {0}
@@ -111,7 +111,7 @@ AsksPattern Command.Report = Unit {0}
 
 -- if the request is a write, it writes at most 64 bytes; if the request makes a cache, the pattern has 1 to 16 bytes
 abbrev pub IsAskable : Request → Type 0
-IsAskable (Request.Write place bytes) = length bytes.now ≤ MOST_BYTES
+IsAskable (Request.Write place bytes) = length bytes.now ≤ MAX_BYTES
 IsAskable (Request.Cache size align pattern) = is_pattern pattern.now ≡ true
 IsAskable (Request.Alloc order) = Unit {0}
 IsAskable (Request.Free frame) = Unit {0}
@@ -171,4 +171,4 @@ is_long (Answer.Fault fault) = false
 
 -- the size in bytes of a buffer for the text of the answer
 abbrev pub buffer_of : Answer → ℕ
-buffer_of answer = if is_long answer then MOST_ANSWER_BYTES else SHORT_ANSWER_BYTES
+buffer_of answer = if is_long answer then MAX_ANSWER_BYTES else SHORT_ANSWER_BYTES

@@ -11,7 +11,7 @@ use crate::hex_digits::put_hex;
 use crate::reply::{Addressee, Body, Refusal};
 use crate::window::{put_front, put_labelled, put_number, put_number_quickly, put_text};
 use arrayvec::ArrayVec;
-use model_core::limits::MOST_BYTES;
+use model_core::limits::MAX_BYTES;
 
 /// The body of a one-line reply: a [`Body`] in a form that borrows its bytes. A report and the table of owners have several
 /// lines, so they are not answers.
@@ -53,13 +53,13 @@ pub enum Answer<'a> {
 
 /// Size in bytes of a buffer for the text of any answer, including its line feed. The longest text is the answer to a read of 64
 /// bytes.
-pub const MOST_ANSWER_BYTES: usize = 160;
+pub const MAX_ANSWER_BYTES: usize = 160;
 
 /// Size in bytes of a buffer for the text of an answer that is not long (see [`Answer::is_long`]).
 pub const SHORT_ANSWER_BYTES: usize = 32;
 
 /// The largest number of bytes before the body in a line of a reply.
-pub(crate) const MOST_FRONT_BYTES: usize = 7;
+pub(crate) const MAX_FRONT_BYTES: usize = 7;
 
 impl Answer<'_> {
     /// Converts the answer to a [`Body`], which has a copy of the bytes.
@@ -120,7 +120,7 @@ impl Answer<'_> {
         }
     }
 
-    /// Returns true if the text may need a buffer of `MOST_ANSWER_BYTES` bytes: if the answer has bytes that were read, or is
+    /// Returns true if the text may need a buffer of `MAX_ANSWER_BYTES` bytes: if the answer has bytes that were read, or is
     /// about a new cache or about superblocks.
     #[inline(always)]
     pub fn is_long(&self) -> bool
@@ -201,8 +201,8 @@ impl Body {
 }
 
 /// Returns a copy of these bytes.
-fn copied(bytes: &[u8]) -> ArrayVec<u8, MOST_BYTES>
-    requires { length bytes.now ≤ MOST_BYTES }
+fn copied(bytes: &[u8]) -> ArrayVec<u8, MAX_BYTES>
+    requires { length bytes.now ≤ MAX_BYTES }
     ensures { result.items ≡ bytes.now }
 {
     let mut copied = ArrayVec::new();
@@ -212,7 +212,7 @@ fn copied(bytes: &[u8]) -> ArrayVec<u8, MOST_BYTES>
 }
 
 /// Writes the text of an answer to a tenant, which is one line with its line feed, and returns its length in bytes. The buffer
-/// needs at least `MOST_ANSWER_BYTES` bytes if the answer is long, and at least `SHORT_ANSWER_BYTES` otherwise.
+/// needs at least `MAX_ANSWER_BYTES` bytes if the answer is long, and at least `SHORT_ANSWER_BYTES` otherwise.
 #[inline(always)]
 pub fn write_answer(tenant: u8, answer: Answer<'_>, out: &mut [u8]) -> usize
     requires few { HasFewBytes answer }
@@ -284,7 +284,7 @@ fn put_line(addressee: Addressee, answer: Answer<'_>, out: &mut [u8]) -> usize
 pub(crate) fn put_addressee(addressee: Addressee, out: &mut [u8]) -> usize
     requires { SHORT_ANSWER_BYTES ≤ length out.old }
     ensures text { take result out.new ≡ addressee_text addressee }
-    ensures short { result ≤ MOST_FRONT_BYTES }
+    ensures short { result ≤ MAX_FRONT_BYTES }
 {
     match addressee {
         Addressee::Admin => put_text(b"admin> ", 0, out),
@@ -301,7 +301,7 @@ pub(crate) fn put_addressee(addressee: Addressee, out: &mut [u8]) -> usize
 #[inline(always)]
 pub(crate) fn put_answer(answer: Answer<'_>, at: usize, out: &mut [u8]) -> usize
     requires few { HasFewBytes answer }
-    requires front { at ≤ MOST_FRONT_BYTES }
+    requires front { at ≤ MAX_FRONT_BYTES }
     requires space { buffer_of answer ≤ length out.old }
     ensures text { body_texts (take at out.old) (body_of_answer answer.entry) ≡ take result out.new ∷ [] }
     ensures short { result < buffer_of answer.entry }
@@ -367,11 +367,11 @@ pub(crate) fn put_answer(answer: Answer<'_>, at: usize, out: &mut [u8]) -> usize
 
 /// Writes the word `bytes`, and then the bytes that were read, in hex.
 fn put_bytes(bytes: &[u8], at: usize, out: &mut [u8]) -> usize
-    requires few { length bytes.now ≤ MOST_BYTES }
-    requires front { at ≤ MOST_FRONT_BYTES }
-    requires space { MOST_ANSWER_BYTES ≤ length out.old }
+    requires few { length bytes.now ≤ MAX_BYTES }
+    requires front { at ≤ MAX_FRONT_BYTES }
+    requires space { MAX_ANSWER_BYTES ≤ length out.old }
     ensures text { take result out.new ≡ take at out.old ++ codes "bytes " ++ encode_lower bytes.now }
-    ensures short { result < MOST_ANSWER_BYTES }
+    ensures short { result < MAX_ANSWER_BYTES }
 {
     let at = put_text(b"bytes ", at, out);
     put_digits(bytes, at, out)
@@ -391,11 +391,11 @@ fn put_digits(bytes: &[u8], at: usize, out: &mut [u8]) -> usize
 #[cold]
 #[inline(never)]
 fn put_slot(tenant: u8, slot: u16, superblock: u16, at: usize, out: &mut [u8]) -> usize
-    requires front { at ≤ MOST_FRONT_BYTES + 8 }
-    requires space { MOST_ANSWER_BYTES ≤ length out.old }
+    requires front { at ≤ MAX_FRONT_BYTES + 8 }
+    requires space { MAX_ANSWER_BYTES ≤ length out.old }
     ensures text { take result out.new
         ≡ take at out.old ++ decimal tenant ++ codes " slot " ++ decimal slot ++ codes " superblock " ++ decimal superblock }
-    ensures short { result < MOST_ANSWER_BYTES }
+    ensures short { result < MAX_ANSWER_BYTES }
 {
     let at = put_number(u32::from(tenant), at, out);
     let at = put_labelled(b" slot ", u32::from(slot), at, out);
@@ -414,10 +414,10 @@ fn put_cache(
     at: usize,
     out: &mut [u8],
 ) -> usize
-    requires front { at ≤ MOST_FRONT_BYTES }
-    requires space { MOST_ANSWER_BYTES ≤ length out.old }
+    requires front { at ≤ MAX_FRONT_BYTES }
+    requires space { MAX_ANSWER_BYTES ≤ length out.old }
     ensures text { body_texts (take at out.old) (Cache cache chunk order objects colours) ≡ take result out.new ∷ [] }
-    ensures short { result < MOST_ANSWER_BYTES }
+    ensures short { result < MAX_ANSWER_BYTES }
 {
     let at = put_labelled(b"cache ", u32::from(cache), at, out);
     let at = put_labelled(b" chunk ", chunk, at, out);
@@ -431,7 +431,7 @@ fn put_cache(
 #[cold]
 #[inline(never)]
 fn put_refused(refusal: Refusal, at: usize, out: &mut [u8]) -> usize
-    requires front { at ≤ MOST_FRONT_BYTES }
+    requires front { at ≤ MAX_FRONT_BYTES }
     requires space { SHORT_ANSWER_BYTES ≤ length out.old }
     ensures text { body_texts (take at out.old) (Refused refusal) ≡ take result out.new ∷ [] }
     ensures short { result < SHORT_ANSWER_BYTES }
@@ -446,7 +446,7 @@ fn put_refused(refusal: Refusal, at: usize, out: &mut [u8]) -> usize
 #[cold]
 #[inline(never)]
 fn put_fault(fault: LineFault, at: usize, out: &mut [u8]) -> usize
-    requires front { at ≤ MOST_FRONT_BYTES }
+    requires front { at ≤ MAX_FRONT_BYTES }
     requires space { SHORT_ANSWER_BYTES ≤ length out.old }
     ensures text { body_texts (take at out.old) (Fault fault) ≡ take result out.new ∷ [] }
     ensures short { result < SHORT_ANSWER_BYTES }

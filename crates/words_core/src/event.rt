@@ -3,7 +3,7 @@
 ghost use Rattle.std.specs.Prelude.{◌≡◌, ◌≤◌, length};
 
 use arrayvec::ArrayVec;
-use model_core::limits::{MOST_BYTES, MOST_PATTERN};
+use model_core::limits::{MAX_BYTES, MAX_PATTERN};
 
 /// What a line requests, unless it is faulty, blank or a comment.
 #[derive(Debug, Drop, PartialEq, Eq)]
@@ -48,14 +48,14 @@ pub enum Command {
     /// `T write PLACE HEX`: writes 1 to 64 bytes to the range that begins at the tenant's place `place`.
     Write {
         place: u32,
-        bytes: ArrayVec<u8, MOST_BYTES>,
+        bytes: ArrayVec<u8, MAX_BYTES>,
     },
     /// `T cache SIZE ALIGN HEX`: makes a cache of objects of `size` bytes, each at a multiple of `align`
     /// bytes. A constructed object is filled with the pattern of 1 to 16 bytes, repeated.
     Cache {
         size: u32,
         align: u32,
-        pattern: ArrayVec<u8, MOST_PATTERN>,
+        pattern: ArrayVec<u8, MAX_PATTERN>,
     },
     /// `T destroy C`: destroys the cache with this number.
     Destroy {

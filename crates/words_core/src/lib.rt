@@ -34,10 +34,10 @@ mod text;
 mod window;
 mod words;
 
-pub use answer::{Answer, MOST_ANSWER_BYTES, SHORT_ANSWER_BYTES, write_answer, write_answer_to};
+pub use answer::{Answer, MAX_ANSWER_BYTES, SHORT_ANSWER_BYTES, write_answer, write_answer_to};
 pub use event::{AdminCommand, Command, Event, LineFault, Request};
 pub use laws::one_case;
-pub use line::{MOST_LINE_BYTES, read_line};
+pub use line::{MAX_LINE_BYTES, read_line};
 pub use reply::{Addressee, Body, OWNERS, REFUSALS, Refusal, Reply};
 pub use report::{CACHES, ORDERS, Report};
-pub use text::{MOST_REPLY_BYTES, MOST_ROWS, Table, rows, write_line, write_row};
+pub use text::{MAX_REPLY_BYTES, MAX_ROWS, Table, rows, write_line, write_row};

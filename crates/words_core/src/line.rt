@@ -17,7 +17,7 @@ use crate::numbers::number;
 use crate::words::split_words;
 
 /// The largest number of bytes in a line, not counting its line feed and one carriage return before it.
-pub const MOST_LINE_BYTES: usize = 255;
+pub const MAX_LINE_BYTES: usize = 255;
 
 /// Reads a line of a trace. Returns its event, `None` for a blank line or a comment, or its fault.
 ///
@@ -30,7 +30,7 @@ pub fn read_line(line: &[u8]) -> Result<Option<Event>, LineFault>
     ensures exact { result ≡ reading_of line.now }
 {
     let line = without_carriage_return(line);
-    if line.len() > MOST_LINE_BYTES {
+    if line.len() > MAX_LINE_BYTES {
         return Err(LineFault::Long);
     }
     judged(split_words(line).as_slice())

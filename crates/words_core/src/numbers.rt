@@ -4,13 +4,13 @@ ghost use Rattle.std.specs.Prelude.{◌≡◌, ◌≤◌, decimal, length};
 ghost use Rattle.words_core.specs.Numbers.{number_of};
 
 /// The largest number of decimal digits in a number, including leading zeros. That is enough for every number below `2^32`.
-pub const MOST_DIGITS: usize = 10;
+pub const MAX_DIGITS: usize = 10;
 
 /// Reads a word of 1 to 10 decimal digits as a number. Returns `None` for any other word, and for a value of `2^32` or more.
 pub fn number(word: &[u8]) -> Option<u32>
     ensures { result ≡ number_of word.now }
 {
-    if word.is_empty() || word.len() > MOST_DIGITS {
+    if word.is_empty() || word.len() > MAX_DIGITS {
         return None;
     }
     let mut value = 0u64;
@@ -28,7 +28,7 @@ pub fn number(word: &[u8]) -> Option<u32>
 #[inline(always)]
 pub fn digits_of(number: u32) -> usize
     ensures count { result ≡ length (decimal number) }
-    ensures few { result ≤ MOST_DIGITS }
+    ensures few { result ≤ MAX_DIGITS }
 {
     number.checked_ilog10().unwrap_or(0) as usize + 1
 }

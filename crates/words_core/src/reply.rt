@@ -5,11 +5,11 @@ ghost use Rattle.std.specs.Prelude.{◌≡◌, ◌≤◌, length};
 use crate::event::LineFault;
 use crate::report::Report;
 use arrayvec::ArrayVec;
-use model_core::limits::{MOST_BYTES, MOST_SUPERBLOCKS};
+use model_core::limits::{MAX_BYTES, MAX_SUPERBLOCKS};
 use model_core::owner::Owner;
 
 /// Capacity of a list of the owners of all superblocks.
-pub const OWNERS: usize = MOST_SUPERBLOCKS as usize;
+pub const OWNERS: usize = MAX_SUPERBLOCKS as usize;
 
 /// The reply to an event or to a faulty line.
 #[derive(Debug, Drop, PartialEq, Eq)]
@@ -58,7 +58,7 @@ pub enum Body {
     /// The order of the freed page block, which had `2^order` frames.
     Freed(u8),
     /// The 1 to 64 bytes that were read.
-    Bytes(ArrayVec<u8, MOST_BYTES>),
+    Bytes(ArrayVec<u8, MAX_BYTES>),
     /// The number of bytes written, 1 to 64.
     Written(u32),
     /// The number of a new cache, and its layout: the number of bytes from one object to the next, the

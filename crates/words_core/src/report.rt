@@ -3,19 +3,19 @@
 ghost use Rattle.std.specs.Prelude.{◌≡◌, ◌+◌, ◌<◌, ◌≤◌, ◌++◌, length, slice_get, take, Some};
 ghost use Rattle.words_core.specs.ReportTexts.{top_text, frames_text, order_text, cache_text, report_texts};
 
-use crate::answer::MOST_FRONT_BYTES;
-use crate::numbers::MOST_DIGITS;
-use crate::text::MOST_REPLY_BYTES;
+use crate::answer::MAX_FRONT_BYTES;
+use crate::numbers::MAX_DIGITS;
+use crate::text::MAX_REPLY_BYTES;
 use crate::window::{put_labelled, put_number, put_text};
 use arrayvec::ArrayVec;
-use model_core::limits::{MOST_CACHES, MOST_ORDER};
+use model_core::limits::{MAX_CACHES, MAX_ORDER};
 use model_core::report::{CacheRow, OrderRow};
 
 /// Capacity of a list with one row for each order that a block may have.
-pub const ORDERS: usize = MOST_ORDER as usize + 1;
+pub const ORDERS: usize = MAX_ORDER as usize + 1;
 
 /// Capacity of a list with one row for each cache of a tenant.
-pub const CACHES: usize = MOST_CACHES as usize;
+pub const CACHES: usize = MAX_CACHES as usize;
 
 /// The figures of a tenant's memory.
 #[derive(Debug, Drop, PartialEq, Eq)]
@@ -41,10 +41,10 @@ pub struct Report {
 /// are counted from 0. The functions below also write after the first `at` bytes and return the end.
 pub(crate) fn put_report(report: &Report, row: usize, at: usize, out: &mut [u8]) -> usize
     requires row { row < length (report_texts (take at out.old) report.now) }
-    requires front { at ≤ MOST_FRONT_BYTES }
-    requires space { MOST_REPLY_BYTES ≤ length out.old }
+    requires front { at ≤ MAX_FRONT_BYTES }
+    requires space { MAX_REPLY_BYTES ≤ length out.old }
     ensures text { slice_get (report_texts (take at out.old) report.now) row ≡ Some (take result out.new) }
-    ensures short { result < MOST_REPLY_BYTES }
+    ensures short { result < MAX_REPLY_BYTES }
 {
     let Some(order) = row.checked_sub(1) else {
         return put_frames(report, at, out);
@@ -60,10 +60,10 @@ pub(crate) fn put_report(report: &Report, row: usize, at: usize, out: &mut [u8])
 /// Writes the line about the frames.
 #[inline(never)]
 fn put_frames(report: &Report, at: usize, out: &mut [u8]) -> usize
-    requires front { at ≤ MOST_FRONT_BYTES }
-    requires space { MOST_REPLY_BYTES ≤ length out.old }
+    requires front { at ≤ MAX_FRONT_BYTES }
+    requires space { MAX_REPLY_BYTES ≤ length out.old }
     ensures text { take result out.new ≡ frames_text (take at out.old) report.now }
-    ensures short { result < MOST_REPLY_BYTES }
+    ensures short { result < MAX_REPLY_BYTES }
 {
     let at = put_labelled(b"frames ", report.frames, at, out);
     let at = put_labelled(b" live ", report.live, at, out);
@@ -74,9 +74,9 @@ fn put_frames(report: &Report, at: usize, out: &mut [u8]) -> usize
 }
 
 fn put_top(top: Option<u8>, at: usize, out: &mut [u8]) -> usize
-    requires { at + MOST_DIGITS ≤ length out.old }
+    requires { at + MAX_DIGITS ≤ length out.old }
     ensures text { take result out.new ≡ take at out.old ++ top_text top }
-    ensures short { result ≤ at + MOST_DIGITS }
+    ensures short { result ≤ at + MAX_DIGITS }
 {
     match top {
         None => put_text(b"none", at, out),
@@ -87,10 +87,10 @@ fn put_top(top: Option<u8>, at: usize, out: &mut [u8]) -> usize
 /// Writes the line of an order: the numbers of its free and taken blocks.
 #[inline(never)]
 fn put_order(order: u32, row: OrderRow, at: usize, out: &mut [u8]) -> usize
-    requires front { at ≤ MOST_FRONT_BYTES }
-    requires space { MOST_REPLY_BYTES ≤ length out.old }
+    requires front { at ≤ MAX_FRONT_BYTES }
+    requires space { MAX_REPLY_BYTES ≤ length out.old }
     ensures text { take result out.new ≡ order_text (take at out.old) order row }
-    ensures short { result < MOST_REPLY_BYTES }
+    ensures short { result < MAX_REPLY_BYTES }
 {
     let at = put_labelled(b"order ", order, at, out);
     let at = put_labelled(b" free ", row.free, at, out);
@@ -100,10 +100,10 @@ fn put_order(order: u32, row: OrderRow, at: usize, out: &mut [u8]) -> usize
 /// Writes the line of a cache: the numbers of its full, partial and empty slabs and of its live objects.
 #[inline(never)]
 fn put_cache_row(row: CacheRow, at: usize, out: &mut [u8]) -> usize
-    requires front { at ≤ MOST_FRONT_BYTES }
-    requires space { MOST_REPLY_BYTES ≤ length out.old }
+    requires front { at ≤ MAX_FRONT_BYTES }
+    requires space { MAX_REPLY_BYTES ≤ length out.old }
     ensures text { take result out.new ≡ cache_text (take at out.old) row }
-    ensures short { result < MOST_REPLY_BYTES }
+    ensures short { result < MAX_REPLY_BYTES }
 {
     let at = put_labelled(b"cache ", u32::from(row.cache), at, out);
     let at = put_labelled(b" full ", row.full, at, out);

@@ -4,25 +4,25 @@ ghost use Rattle.std.specs.Prelude.{◌≡◌, ◌+◌, ◌<◌, ◌≤◌, leng
 ghost use Rattle.words_core.specs.Texts.{owner_text, pool_texts, body_texts, lines_of};
 ghost use Rattle.words_core.specs.Requests.{reply_of_table, HasFewRows};
 
-use crate::answer::{MOST_FRONT_BYTES, put_addressee, put_answer};
+use crate::answer::{MAX_FRONT_BYTES, put_addressee, put_answer};
 use crate::reply::{Addressee, Body, OWNERS, Reply};
 use crate::report::{Report, put_report};
 use crate::window::{put_labelled, put_text};
 use arrayvec::ArrayVec;
-use model_core::limits::MOST_SUPERBLOCKS;
+use model_core::limits::MAX_SUPERBLOCKS;
 use model_core::owner::Owner;
 
 /// Size in bytes of a buffer for any line of a reply, including its line feed.
-pub const MOST_REPLY_BYTES: usize = 256;
+pub const MAX_REPLY_BYTES: usize = 256;
 
 /// The largest number of lines in a reply. The table of owners has a first line, and then a line for each superblock.
-pub const MOST_ROWS: usize = 1 + OWNERS;
+pub const MAX_ROWS: usize = 1 + OWNERS;
 
 /// Returns the number of lines of a reply.
 #[tactic(auto, using(crate::proofs::TextLemmas::table_rows))]
 pub fn rows(reply: &Reply) -> usize
     ensures count { result ≡ length (lines_of reply.now) }
-    ensures few { result ≤ MOST_ROWS }
+    ensures few { result ≤ MAX_ROWS }
 {
     match &reply.body {
         Body::Owners(owners) => 1 + owners.len(),
@@ -32,11 +32,11 @@ pub fn rows(reply: &Reply) -> usize
 }
 
 /// Replaces the contents of `out` with one line of a reply, including its line feed. Rows are counted from 0.
-pub fn write_line(reply: &Reply, row: usize, out: &mut ArrayVec<u8, MOST_REPLY_BYTES>)
+pub fn write_line(reply: &Reply, row: usize, out: &mut ArrayVec<u8, MAX_REPLY_BYTES>)
     requires { row < length (lines_of reply.now) }
     ensures { slice_get (lines_of reply.now) row ≡ Some out.new.items }
 {
-    let mut text = [0; MOST_REPLY_BYTES];
+    let mut text = [0; MAX_REPLY_BYTES];
     let len = write_row(reply, row, &mut text);
     out.clear();
     let taken = out.try_extend_from_slice(&text[..len]);
@@ -46,9 +46,9 @@ pub fn write_line(reply: &Reply, row: usize, out: &mut ArrayVec<u8, MOST_REPLY_B
 /// Writes one line of a reply to the front of a slice, as [`write_line`] does. Returns the length of the line in bytes.
 pub fn write_row(reply: &Reply, row: usize, out: &mut [u8]) -> usize
     requires row { row < length (lines_of reply.now) }
-    requires space { MOST_REPLY_BYTES ≤ length out.old }
+    requires space { MAX_REPLY_BYTES ≤ length out.old }
     ensures text { slice_get (lines_of reply.now) row ≡ Some (take result out.new) }
-    ensures short { result ≤ MOST_REPLY_BYTES }
+    ensures short { result ≤ MAX_REPLY_BYTES }
 {
     let at = put_addressee(reply.addressee, out);
     let at = put_body(&reply.body, row, at, out);
@@ -70,7 +70,7 @@ impl Table<'_> {
     pub fn rows(self) -> usize
         requires { HasFewRows self }
         ensures count { result ≡ length (lines_of (reply_of_table self.entry)) }
-        ensures few { result ≤ MOST_ROWS }
+        ensures few { result ≤ MAX_ROWS }
     {
         match self {
             Table::Owners(owners) => 1 + owners.len(),
@@ -83,9 +83,9 @@ impl Table<'_> {
     pub fn write_row(self, row: usize, out: &mut [u8]) -> usize
         requires rows { HasFewRows self }
         requires row { row < length (lines_of (reply_of_table self)) }
-        requires space { MOST_REPLY_BYTES ≤ length out.old }
+        requires space { MAX_REPLY_BYTES ≤ length out.old }
         ensures text { slice_get (lines_of (reply_of_table self.entry)) row ≡ Some (take result out.new) }
-        ensures short { result ≤ MOST_REPLY_BYTES }
+        ensures short { result ≤ MAX_REPLY_BYTES }
     {
         let at = put_addressee(self.addressee(), out);
         let at = self.put_row(row, at, out);
@@ -105,10 +105,10 @@ impl Table<'_> {
     fn put_row(self, row: usize, at: usize, out: &mut [u8]) -> usize
         requires rows { HasFewRows self }
         requires row { row < length (body_texts (take at out.old) (reply_of_table self).body) }
-        requires front { at ≤ MOST_FRONT_BYTES }
-        requires space { MOST_REPLY_BYTES ≤ length out.old }
+        requires front { at ≤ MAX_FRONT_BYTES }
+        requires space { MAX_REPLY_BYTES ≤ length out.old }
         ensures text { slice_get (body_texts (take at out.old) (reply_of_table self.entry).body) row ≡ Some (take result out.new) }
-        ensures short { result < MOST_REPLY_BYTES }
+        ensures short { result < MAX_REPLY_BYTES }
     {
         match self {
             Table::Owners(owners) => put_owners(owners, row, at, out),
@@ -122,10 +122,10 @@ impl Table<'_> {
 #[tactic(auto, using(crate::proofs::TextLemmas::table_rows))]
 fn put_body(body: &Body, row: usize, at: usize, out: &mut [u8]) -> usize
     requires row { row < length (body_texts (take at out.old) body.now) }
-    requires front { at ≤ MOST_FRONT_BYTES }
-    requires space { MOST_REPLY_BYTES ≤ length out.old }
+    requires front { at ≤ MAX_FRONT_BYTES }
+    requires space { MAX_REPLY_BYTES ≤ length out.old }
     ensures text { slice_get (body_texts (take at out.old) body.now) row ≡ Some (take result out.new) }
-    ensures short { result < MOST_REPLY_BYTES }
+    ensures short { result < MAX_REPLY_BYTES }
 {
     match body {
         Body::Owners(owners) => put_owners(owners.as_slice(), row, at, out),
@@ -138,11 +138,11 @@ fn put_body(body: &Body, row: usize, at: usize, out: &mut [u8]) -> usize
 #[tactic(auto, using(crate::proofs::TextLemmas::table_rows))]
 fn put_owners(owners: &[Option<Owner>], row: usize, at: usize, out: &mut [u8]) -> usize
     requires row { row < length owners.now + 1 }
-    requires few { length owners.now ≤ MOST_SUPERBLOCKS }
-    requires front { at ≤ MOST_FRONT_BYTES }
-    requires space { MOST_REPLY_BYTES ≤ length out.old }
+    requires few { length owners.now ≤ MAX_SUPERBLOCKS }
+    requires front { at ≤ MAX_FRONT_BYTES }
+    requires space { MAX_REPLY_BYTES ≤ length out.old }
     ensures text { slice_get (pool_texts (take at out.old) owners.now) row ≡ Some (take result out.new) }
-    ensures short { result < MOST_REPLY_BYTES }
+    ensures short { result < MAX_REPLY_BYTES }
 {
     match row.checked_sub(1) {
         None => {
@@ -157,10 +157,10 @@ fn put_owners(owners: &[Option<Owner>], row: usize, at: usize, out: &mut [u8]) -
 /// Writes the line of a superblock: its owner and the owner's slot, or `free`.
 #[inline(never)]
 fn put_owner(superblock: u32, owner: Option<Owner>, at: usize, out: &mut [u8]) -> usize
-    requires front { at ≤ MOST_FRONT_BYTES }
-    requires space { MOST_REPLY_BYTES ≤ length out.old }
+    requires front { at ≤ MAX_FRONT_BYTES }
+    requires space { MAX_REPLY_BYTES ≤ length out.old }
     ensures text { take result out.new ≡ owner_text (take at out.old) superblock owner }
-    ensures short { result < MOST_REPLY_BYTES }
+    ensures short { result < MAX_REPLY_BYTES }
 {
     let at = put_labelled(b"superblock ", superblock, at, out);
     match owner {

@@ -3,7 +3,7 @@
 ghost use Rattle.std.specs.Prelude.{◌≡◌, ◌+◌, ◌<◌, ◌≤◌, [], ◌∷◌, ◌++◌, take, drop, decimal, length, slice_range};
 ghost use Rattle.words_core.specs.Digits.{two_digits, five_digits};
 
-use crate::numbers::{MOST_DIGITS, digits_of};
+use crate::numbers::{MAX_DIGITS, digits_of};
 
 /// Writes the text after the first `at` bytes of the buffer and returns the index of its end. The other functions here that take
 /// `at` also write after the first `at` bytes and return the end.
@@ -160,9 +160,9 @@ fn put_five(number: u32, at: usize, out: &mut [u8]) -> usize
 #[tactic(auto, using(crate::proofs::DigitLemmas::digit_rules))]
 #[inline(always)]
 pub fn put_number_quickly(number: u32, at: usize, out: &mut [u8]) -> usize
-    requires space { at + MOST_DIGITS ≤ length out.old }
+    requires space { at + MAX_DIGITS ≤ length out.old }
     ensures text { take result out.new ≡ take at out.old ++ decimal number }
-    ensures short { result ≤ at + MOST_DIGITS }
+    ensures short { result ≤ at + MAX_DIGITS }
 {
     if number < 100_000 {
         return put_up_to_five(number, at, out);
@@ -174,10 +174,10 @@ pub fn put_number_quickly(number: u32, at: usize, out: &mut [u8]) -> usize
 /// Writes a number with `itoa`, which writes backwards from the end of the digits. So the digits are counted first.
 #[inline(always)]
 pub fn put_number(number: u32, at: usize, out: &mut [u8]) -> usize
-    requires space { at + MOST_DIGITS ≤ length out.old }
+    requires space { at + MAX_DIGITS ≤ length out.old }
     ensures text { take result out.new ≡ take at out.old ++ decimal number }
     ensures end { result ≡ at + length (decimal number) }
-    ensures short { result ≤ at + MOST_DIGITS }
+    ensures short { result ≤ at + MAX_DIGITS }
 {
     let end = at + digits_of(number);
     itoa::write_digits(u64::from(number), out, end);
@@ -187,9 +187,9 @@ pub fn put_number(number: u32, at: usize, out: &mut [u8]) -> usize
 /// Writes a label, and then a number.
 #[inline(always)]
 pub fn put_labelled(label: &[u8], number: u32, at: usize, out: &mut [u8]) -> usize
-    requires { at + length label.now + MOST_DIGITS ≤ length out.old }
+    requires { at + length label.now + MAX_DIGITS ≤ length out.old }
     ensures text { take result out.new ≡ take at out.old ++ label.now ++ decimal number }
-    ensures short { result ≤ at + length label.now + MOST_DIGITS }
+    ensures short { result ≤ at + length label.now + MAX_DIGITS }
 {
     let at = put_text(label, at, out);
     put_number(number, at, out)

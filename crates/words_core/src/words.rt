@@ -7,7 +7,7 @@ use arrayvec::ArrayVec;
 
 /// The largest number of words that are read from a line. A line with a valid command has at most five words. If there is a
 /// sixth, the line is a comment or faulty, and the words after the sixth cannot change what the line means.
-pub const MOST_WORDS: usize = 6;
+pub const MAX_WORDS: usize = 6;
 
 fn is_blank(byte: u8) -> bool
     ensures { result ≡ is_blank byte }
@@ -55,8 +55,8 @@ fn next_word(bytes: &[u8]) -> Option<(&[u8], &[u8])>
 }
 
 /// Returns the first six words of a line, in order, or all words if there are fewer.
-pub fn split_words(line: &[u8]) -> ArrayVec<&[u8], MOST_WORDS>
-    ensures { map (λ word. word.now) result.items ≡ take MOST_WORDS (words_of line.now) }
+pub fn split_words(line: &[u8]) -> ArrayVec<&[u8], MAX_WORDS>
+    ensures { map (λ word. word.now) result.items ≡ take MAX_WORDS (words_of line.now) }
 {
     let mut words = ArrayVec::new();
     let mut rest = line;

@@ -15,7 +15,7 @@ use picture_svg::picture::Picture;
 use replay_core::{
     Drain, NoNotes, Notes, Pending, ReaderFeed, ReplayError, WriterDrain, replay_noted,
 };
-use run_notes::{MOST_NUMBER, RunNotes};
+use run_notes::{MAX_NUMBER, RunNotes};
 use std::alloc::{AllocError, Global};
 use std::io::{BufWriter, Read, Write};
 use words_core::{Answer, Event, LineFault, Refusal};
@@ -226,7 +226,7 @@ fn replay_and_note(
     let mut notes = RunNotes::new();
     let ended = replay_between(alloc, config, None, trace, &mut *digest, &mut notes)?;
     digest.add(ended);
-    for number in 1..=MOST_NUMBER {
+    for number in 1..=MAX_NUMBER {
         if let Some(refused) = notes.told(number) {
             digest.add_bytes(format!(in alloc; "{refused}")?.as_bytes());
         }

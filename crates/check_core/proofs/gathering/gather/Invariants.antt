@@ -2,13 +2,13 @@ use Rattle.std.proofs.Common.{◌≡◌, ℕ, ◌+◌, ◌≤◌, List, ◌++◌
 use Rattle.check_core.specs.Checking.{HasGathered}
 use Rattle.check_core.specs.Gathered.{HasAdded}
 use Rattle.check_core.specs.Reading.{HasGiven}
-use Rattle.check_core.specs.declared.shown.TheConstants.{MOST_TEXT_BYTES}
+use Rattle.check_core.specs.declared.shown.TheConstants.{MAX_TEXT_BYTES}
 use Rattle.check_core.proofs.gathering.gather.Given as goal
 
 abbrev pub invariant-lines : goal.invariant-lines
 invariant-lines g l = record {
   come : (part : List ℕ) × HasGiven l.fn.replies l.replies part × ((k n : ℕ) (came : List ℕ) → k + l.lines ≡ n → HasGathered k came l.fn.text
-      → (now : ℕ) × (now + l.more ≡ n) × HasGathered now (came ++ part) l.text) × HasAdded MOST_TEXT_BYTES part l.fn.text l.text;
+      → (now : ℕ) × (now + l.more ≡ n) × HasGathered now (came ++ part) l.text) × HasAdded MAX_TEXT_BYTES part l.fn.text l.text;
   fine : l.replies.failed ≡ false;
   room : l.replies.room + l.lines ≤ l.fn.replies.room + l.more;
 }

@@ -1,6 +1,6 @@
 use Rattle.std.proofs.Common.{◌≡◌, ◌∙◌, List, Result, Ok, Err, IfErr, IsErrAnd, ap, inl, inr, max, min, subst, sym, map, rules, codes}
 use Rattle.clap.specs.Words.{Text, found_of, matches_of, one_text}
-use Rattle.frame_picture.specs.declared.history.TheConstants.{MOST_COLUMNS}
+use Rattle.frame_picture.specs.declared.history.TheConstants.{MAX_COLUMNS}
 use Rattle.command_line.specs.Settings.{IsFlag}
 use Rattle.command_line.specs.declared.outcome.Outcome.{Outcome}
 use Rattle.framemap.specs.Settings.{AreColumns, map_command_line}
@@ -14,7 +14,7 @@ returns-clause-asked c =
     let found = found_of c.in_ok-matches.matches in
     let rows = map_rows _ found words c.in_ok-command.ensures c.in_ok-matches.ensures.found in
     let figures : IsFlag (one_text found (codes "figures")) c.get_flag.result = search rules in
-    let columns : AreColumns (one_text found (codes "columns")) c.clamp.result = record { written = c.get_one.result; read = search rules; within = c.clamp.ensures ∙ ap (λ n. max 1 (min n MOST_COLUMNS)) c.unwrap_or-columns.ensures } in
+    let columns : AreColumns (one_text found (codes "columns")) c.clamp.result = record { written = c.get_one.result; read = search rules; within = c.clamp.ensures ∙ ap (λ n. max 1 (min n MAX_COLUMNS)) c.unwrap_or-columns.ensures } in
     asks_rows found (matches_of map_command_line words) _ rows
     (record { machine = record { sizes = c.in_ok-found.ensures.asked.sizes; only = c.in_ok-found.ensures.asked.only }; columns = columns; figures = figures; file = c.in_ok-path_of.ensures.path })
 

@@ -1,5 +1,5 @@
 use Rattle.std.proofs.Common.{◌≡◌, ℕ, ◌*◌, ◌/◌, ◌^◌, ◌==◌, cond, None, sym, ap, ◌∙◌, subst}
-use Rattle.model_core.specs.declared.limits.TheConstants.{MOST_CACHES}
+use Rattle.model_core.specs.declared.limits.TheConstants.{MAX_CACHES}
 use Rattle.klist_core.specs.Places.{place_at}
 use Rattle.space_core.specs.Content as spaces
 use Rattle.buddy_core.specs.Content as buddies
@@ -20,10 +20,10 @@ agrees r b s s' t k a = record {
   tenants = k.tenants ∙ a.tenants;
   slots = a.slots;
   slabs = λ n head key cache placed cached.
-      let was = unless_some (λ i. i / MOST_CACHES == t) (place_at s.lists.places n) (head, key) (sym (k.places n) ∙ placed) in
+      let was = unless_some (λ i. i / MAX_CACHES == t) (place_at s.lists.places n) (head, key) (sym (k.places n) ∙ placed) in
       let left : cache_in s'.caches (head / 3) ≡ cache_in s.caches (head / 3) = k.caches (head / 3) ∙ ap (λ v. cond v None (cache_in s.caches (head / 3))) was.1 in
       let g = a.slabs n head key cache was.0 (sym left ∙ cached) in
-      let u : ℕ = head / 3 / MOST_CACHES in
+      let u : ℕ = head / 3 / MAX_CACHES in
       record {
         under = ap (λ top. machine_frame_of top r.slots u key) k.top ∙ g.under;
         taken = g.taken;

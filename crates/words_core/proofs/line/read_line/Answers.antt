@@ -6,13 +6,13 @@ use Rattle.words_core.proofs.LineLemmas.{reading_of-long, reading_of-words}
 use Rattle.words_core.proofs.CaseLemmas.{says_reading, only_reading}
 use Rattle.words_core.proofs.line.read_line.Goals as goal
 
-pub returns-then-line-gt-MOST_LINE_BYTES-clause-exact : goal.returns-then-line-gt-MOST_LINE_BYTES-clause-exact
-returns-then-line-gt-MOST_LINE_BYTES-clause-exact c =
+pub returns-then-line-gt-MAX_LINE_BYTES-clause-exact : goal.returns-then-line-gt-MAX_LINE_BYTES-clause-exact
+returns-then-line-gt-MAX_LINE_BYTES-clause-exact c =
     sym (reading_of-long c.args.line.now (omega (arith, ap length c.without_carriage_return-line.ensures)))
 
-pub returns-then-line-gt-MOST_LINE_BYTES-clause-says : goal.returns-then-line-gt-MOST_LINE_BYTES-clause-says
-returns-then-line-gt-MOST_LINE_BYTES-clause-says c =
-    subst (Says c.args.line.now) (sym (returns-then-line-gt-MOST_LINE_BYTES-clause-exact c)) (says_reading c.args.line.now)
+pub returns-then-line-gt-MAX_LINE_BYTES-clause-says : goal.returns-then-line-gt-MAX_LINE_BYTES-clause-says
+returns-then-line-gt-MAX_LINE_BYTES-clause-says c =
+    subst (Says c.args.line.now) (sym (returns-then-line-gt-MAX_LINE_BYTES-clause-exact c)) (says_reading c.args.line.now)
 
 pub returns-clause-exact : goal.returns-clause-exact
 returns-clause-exact c =

@@ -15,13 +15,13 @@ sheets-preserved c =
       | goal.then-is_of w ↦ rw w.self-is (rw w.len-is (record {
         long = length-set {A = ℕ} here.self.listed here.len here.rest ∙ before.long;
         rest = omega (arith, c.sheets-test.true);
-        few = omega (arith, c.if-len-lt-MOST_LISTED.true);
-        inside = λ j less. listed_inside here.self.listed here.len here.rest (length sheets) (omega (arith, c.if-len-lt-MOST_LISTED.true, before.long)) within before.inside j less;
+        few = omega (arith, c.if-len-lt-MAX_LISTED.true);
+        inside = λ j less. listed_inside here.self.listed here.len here.rest (length sheets) (omega (arith, c.if-len-lt-MAX_LISTED.true, before.long)) within before.inside j less;
         cells = λ order first end.
             row_cells_more order c.args.t first end sheets here.rest c.index-sheets-rest.result within c.index-sheets-rest.is
             ∙ ap (λ xs. xs ++ cells_in order c.args.t first end c.index-sheets-rest.result) (before.cells order first end)
             ∙ sym (listed_set order c.args.t first end sheets here.self.listed here.len here.rest c.index-sheets-rest.result
-            (omega (arith, c.if-len-lt-MOST_LISTED.true, before.long)) within c.index-sheets-rest.is);
+            (omega (arith, c.if-len-lt-MAX_LISTED.true, before.long)) within c.index-sheets-rest.is);
       }))
       | goal.else-is_of w ↦ rw w.self-is (rw w.len-is (record {
         long = before.long;

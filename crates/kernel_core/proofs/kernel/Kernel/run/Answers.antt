@@ -6,7 +6,7 @@ use Rattle.kernel_core.specs.Content.{KernelContent}
 use Rattle.kernel_core.specs.Steps.{StepsMachine}
 use Rattle.kernel_core.proofs.kernel.Kernel.run.Goals as goal
 
--- The call did the step of the command on the tenant's machine. The answer has at most `MOST_BYTES` bytes, and no bytes if the
+-- The call did the step of the command on the tenant's machine. The answer has at most `MAX_BYTES` bytes, and no bytes if the
 -- command does not request bytes.
 abbrev IsRun : KernelContent → ℕ → Request → KernelContent → Answer → Type 0
 IsRun k t request k' answer =
