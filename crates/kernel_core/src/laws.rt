@@ -32,7 +32,8 @@ pub fn is_kernel(kernel: &Kernel)
 }
 
 /// If only bytes inside one live page block or one live object of a tenant change, the tenant's `write` of these bytes makes the
-/// same change. This holds even if there are more bytes than a `write` can have. The kernel keeps its invariants.
+/// same change, and its reply is that all of them were written. This holds even if there are more bytes than a `write` can have.
+/// The kernel keeps its invariants.
 pub fn stores_are_writes()
     ensures { StoresAreWrites }
 {}
@@ -44,8 +45,9 @@ pub fn loads_are_own()
 {}
 
 /// In any list of events, stores and loads after boot, a tenant gets the replies and loads the bytes that its private machine
-/// gives for the tenant's own list. So if the tenant's own lists on two machines of the same order are equal, the tenant sees the
-/// same on both machines. The other tenants may do anything.
+/// gives for the tenant's own list. Afterwards the kernel shows for the tenant the machine that this list leaves. So if the
+/// tenant's own lists on two machines of the same order are equal, the tenant sees the same on both, whatever their numbers of
+/// superblocks and tenants. The other tenants may do anything.
 pub fn own_sights()
     ensures own { OwnSights }
     ensures same { SameSights }

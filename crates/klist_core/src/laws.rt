@@ -19,7 +19,7 @@ pub fn keys_hold_places()
     ensures { KeysHoldPlaces }
 {}
 
-/// The length of a list is the number of its nodes.
+/// The number of pairs of a list, and of its keys, is the number of its nodes.
 pub fn lists_count_places()
     ensures { ListsCountPlaces }
 {}

@@ -2,9 +2,9 @@
 ghost use Rattle.model_core.specs.Layouts.{LayoutsFit};
 ghost use Rattle.layout_core.specs.Laws.{EverySizeHasAnOrder, OffsetsApart, FewObjects};
 
-/// For each accepted size and alignment, at each colour offset, a slab has space for at least one object. All its objects begin
-/// at multiples of the alignment and end within the slab. If the chunks are small, the objects end before the last 32 bytes of
-/// the frame.
+/// For each accepted size and alignment, at each colour offset, a slab has 1 to 256 objects. All begin at multiples of the
+/// alignment and end within the slab. A chunk has at least 16 bytes and at least as many as an object. A slab has at most 8
+/// frames. If the chunks are small, it has one frame, and the objects end before the frame's last 32 bytes.
 pub fn layouts_fit()
     ensures { LayoutsFit }
 {}

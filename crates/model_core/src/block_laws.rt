@@ -5,7 +5,8 @@ ghost use Rattle.model_core.specs.BlockLaws.{EachFrameInOne, Splits, Joins, Rese
 
 /// Each frame that lies in a held slot and is not taken is in exactly one free block. A reservation removes the free block that
 /// it splits, and the upper half of each split becomes a free block. If the taken blocks are sound, a released block is joined
-/// with its buddy as long as the buddy is free (Knuth, TAOCP 1, 2.5, algorithms R and S).
+/// with its buddy as long as the buddy is free, up to a whole slot (Knuth, TAOCP 1, 2.5, algorithms R and S). All other free
+/// blocks stay free.
 pub fn splits_and_joins()
     ensures one_block { EachFrameInOne }
     ensures splits { Splits }

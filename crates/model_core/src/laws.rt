@@ -5,7 +5,9 @@ ghost use Rattle.model_core.specs.Room.{BlockIsPromised, AllocIsPromised, TakeIs
 ghost use Rattle.model_core.specs.Laws.{ChoiceIsUntaken, ChoicesMeet, AllocReaps, TakeReaps, RefusalsStay, KeepsWellFormed, RunsWellFormed, TakenApart, TakenSound, AllocTakes, FreeReleases, GrowthTakes, ReapReleases, ObjectsApart, RecordsFree, ConstructedFirst, ConstructedWhenTaken};
 ghost use Rattle.model_core.specs.ByteLaws.{AllocKeeps, FreeKeeps, TakeKeeps, GiveKeeps, BytesStay, RunsKeepBytes, WritesAlone, SlabsLeaveZeroes};
 
-/// For each accepted size and alignment, the objects of a slab are aligned and fit into the slab at every colour offset.
+/// For each accepted size and alignment, at each colour offset, a slab has 1 to 256 objects. All begin at multiples of the
+/// alignment and end within the slab. A chunk has at least 16 bytes and at least as many as an object. A slab has at most 8
+/// frames. If the chunks are small, it has one frame, and the objects end before the frame's last 32 bytes.
 pub fn layouts_fit()
     ensures { LayoutsFit }
 {}
@@ -20,16 +22,18 @@ pub fn choices_meet()
     ensures { ChoicesMeet }
 {}
 
-/// An alloc, and a take that needs a new slab, free empty slabs only on demand. If a free block is large enough, no slab is
-/// freed. If none is large enough, but one would be after all empty slabs of all caches are freed, these slabs are freed first.
-/// If none would be large enough even then, the step is refused and the machine is unchanged.
+/// An alloc of at most a slot's order, and a take that needs a new slab, free empty slabs only on demand. If a free block is
+/// large enough, no slab is freed. If none is large enough, but one would be after all empty slabs of all caches are freed, these
+/// slabs are freed first. If none would be large enough even then, the step is refused. An alloc or take that is refused, for
+/// whatever reason, leaves the machine unchanged.
 pub fn reaps_by_need()
     ensures alloc { AllocReaps }
     ensures take { TakeReaps }
     ensures refused { RefusalsStay }
 {}
 
-/// Any list of operations that can be requested leads from the empty machine to a well formed machine.
+/// Each operation that can be requested keeps a well formed machine well formed. So any list of such operations leads from the
+/// empty machine to a well formed machine.
 pub fn stays_well_formed()
     ensures step { KeepsWellFormed }
     ensures run { RunsWellFormed }
@@ -45,8 +49,8 @@ pub fn taken_is_sound()
     ensures reap { ReapReleases }
 {}
 
-/// No two taken blocks share a frame, and no two objects share a byte. The objects of a small slab lie before the last 32
-/// bytes of its frame.
+/// In a well formed machine, no two taken blocks share a frame, and no two objects share a byte. The objects of a small slab lie
+/// before the last 32 bytes of its frame.
 pub fn objects_apart()
     ensures blocks { TakenApart }
     ensures objects { ObjectsApart }
@@ -76,9 +80,10 @@ pub fn bytes_stay()
     ensures slabs { SlabsLeaveZeroes }
 {}
 
-/// Suppose that the number of taken frames, not counting those of empty slabs, is less than the number of aligned blocks of some
-/// order in the held slots. Then a page block of that order is not refused, and neither is an object of a cache whose slabs have
-/// that order. This holds wherever the taken blocks lie.
+/// Suppose that in a well formed machine the number of taken frames, not counting those of empty slabs, is less than the number
+/// of aligned blocks of some order in the held slots. Then a block of that order is found, if empty slabs are freed on demand. So
+/// a page block of that order is not refused, and neither is an object of a cache whose slabs have that order. This holds
+/// wherever the taken blocks lie.
 pub fn block_is_promised()
     ensures block { BlockIsPromised }
     ensures alloc { AllocIsPromised }

@@ -10,9 +10,10 @@ use crate::machine_storage::MachineStorage;
 use std::alloc::Global;
 use world_core::laws;
 
-/// If only `partmem_line` is called on a machine from boot on, and each call has status `DONE`, the lines are a trace, and the
-/// kernel is in the state after this trace. The reply lines for a tenant are those of its private machine, run on the tenant's
-/// own list, whatever the other tenants do.
+/// If only `partmem_line` is called on a machine, and each call has status `DONE`, the lines are a trace, and the kernel is then
+/// in the state after this trace. From boot on, the reply lines for a tenant are those of its private machine, run on the
+/// tenant's own list. So if the tenant's own lists on two machines of the same order are equal, both write the same reply lines
+/// for it, whatever their numbers of superblocks and tenants. The other tenants may do anything.
 pub fn own_lines()
     ensures stands { StandsAfterCalls }
     ensures lines { OwnLinesOfCalls }

@@ -49,9 +49,9 @@ pub fn stranger_changes_nothing()
     ensures { StrangerChangesNothing }
 {}
 
-/// In every run from the opening world, each reply is allowed. The events are those of a trace, or any events whose new caches
-/// have patterns of 1 to 16 bytes. Slots must have at least 8 frames, and RAM must have at most 2^32 places, as in every machine
-/// that boots.
+/// In every run from the opening world, each reply is allowed, and what is known after the run is true of the world after it. The
+/// events are those of a trace, or any events whose new caches have patterns of 1 to 16 bytes. Slots must have at least 8 frames,
+/// and RAM must have at most 2^32 places, as in every machine that boots.
 pub fn keeps_promises()
     ensures kept { KeepsPromises }
     ensures by_traces { TraceKeepsPromises }

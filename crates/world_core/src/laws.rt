@@ -25,7 +25,8 @@ pub fn non_interference()
 {}
 
 /// If no tenant is named, the whole output of a trace is shown. If one of at most 2^64 tenants is named, exactly this tenant's
-/// lines of the output are shown.
+/// lines of the output are shown, each with a line feed at its end. If what is shown is cut at its line feeds, the lines are the
+/// same again.
 pub fn own_shown()
     ensures all { AllShown }
     ensures bytes { OwnShown }
@@ -58,9 +59,10 @@ pub fn own_lists_are_requests()
     ensures { OwnListsAreRequests }
 {}
 
-/// The machine after a private run is well formed, and its taken blocks, including those of slabs, are aligned, lie in held slots
-/// and share no frame. So the laws of blocks hold for it: each frame that is held and not taken is in exactly one free block,
-/// `alloc` splits the chosen block, and `free` joins buddies.
+/// Suppose that each new cache in a private run has a pattern of 1 to 16 bytes. Then the machine after the run is well formed,
+/// and its taken blocks, including those of slabs, are aligned, lie in held slots and share no frame. So the laws of blocks hold
+/// for it: an `alloc` splits the chosen block, after empty slabs are freed if it needs them, and a `free` joins buddies. After
+/// any private run, each frame that is held and not taken is in exactly one free block.
 pub fn reached_machines()
     ensures well_formed { ReachedWellFormed }
     ensures sound { ReachedSound }
@@ -69,9 +71,10 @@ pub fn reached_machines()
     ensures joins { ReachedJoins }
 {}
 
-/// The objects of the machine after a private run share no byte. An object of a small slab lies in the slab's frame, below the
-/// control record. An object that was not taken since its slab was made is in its constructed state. So is an object that a
-/// `take` has just returned for the first time since its slab was made.
+/// Suppose that each new cache in a private run has a pattern of 1 to 16 bytes. Then the objects of the machine after the run
+/// share no byte. An object of a small slab lies in the slab's frame, below the control record. An object that was not taken
+/// since its slab was made is in its constructed state. So is an object that a `take` has just returned for the first time since
+/// its slab was made.
 pub fn reached_objects()
     ensures apart { ReachedApart }
     ensures records { ReachedRecordsFree }
@@ -79,9 +82,10 @@ pub fn reached_objects()
     ensures taken { ReachedConstructedWhenTaken }
 {}
 
-/// If a tenant's slots have more aligned blocks of some order than the tenant has taken frames outside empty slabs, then its
-/// private machine refuses neither a block of that order nor an object of a cache whose slabs have that order. After any trace,
-/// the world does not refuse the tenant a block of that order either.
+/// Suppose that a tenant's slots have more aligned blocks of some order than the tenant has taken frames outside empty slabs. If
+/// each new cache of its private run has a pattern of 1 to 16 bytes, its private machine refuses neither a block of that order
+/// nor an object of a cache whose slabs have that order. After any trace, the world does not refuse the tenant a block of that
+/// order.
 pub fn nobody_starves()
     ensures block { ReachedBlock }
     ensures object { ReachedObject }
