@@ -110,7 +110,7 @@ impl History {
     /// Returns the order of a superblock, which has `2^order` frames.
     pub fn order(&self) -> u32
         ensures value { result ≡ drawn_order self.now }
-        ensures small { result ≤ 8 }
+        ensures small { result ≤ MAX_ORDER }
     {
         self.order
     }
@@ -125,7 +125,7 @@ impl History {
     /// Returns the number of tenants that share the machine.
     pub fn tenants(&self) -> u32
         ensures value { result ≡ tenants_of self.now }
-        ensures few { result ≤ 64 }
+        ensures few { result ≤ MAX_TENANTS }
     {
         self.tenants
     }

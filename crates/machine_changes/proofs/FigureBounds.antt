@@ -8,6 +8,7 @@ use Rattle.std.proofs.lemmas.Bool.{cases_lt, false≢true}
 use Rattle.std.proofs.lemmas.List.{get_or_past}
 use Rattle.std.proofs.lemmas.List.Sums.{sum_by_more, count_by-le-length}
 use Rattle.std.proofs.lemmas.Nat.{mul-le, pow_pos}
+use Rattle.model_core.specs.declared.limits.TheConstants.{MAX_FRAMES}
 use Rattle.model_core.specs.Blocks.{block, IsSound}
 use Rattle.model_core.specs.Choice.{is_free, count_below}
 use Rattle.model_core.proofs.BlocksApart.{has_first}
@@ -161,7 +162,7 @@ figures_fit b t w tenant = record {
     h = buddies.holding_of t b
 
     -- all superblocks together have at most 65,536 frames
-    all : b.superblocks * 2 ^ b.top ≤ 65536
+    all : b.superblocks * 2 ^ b.top ≤ MAX_FRAMES
     all =
         let few = w.sizes.few in
         let power : 2 ^ b.top ≤ 2 ^ 8 = pow-le-pow_right (omega arith) w.sizes.small in

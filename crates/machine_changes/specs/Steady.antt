@@ -1,5 +1,6 @@
 -- The premise of the laws: facts about one tenant that hold if the parts agree.
 use Rattle.std.specs.Prelude.{◌≡◌, ℕ, ◌<◌, Some, is_some}
+use Rattle.model_core.specs.declared.limits.TheConstants.{MAX_FRAMES}
 use Rattle.model_core.specs.Blocks.{IsSound}
 use Rattle.model_core.specs.Layouts.{IsLayout}
 use Rattle.layout_core.specs.Objects.{IsColour}
@@ -23,6 +24,6 @@ pub record IsSteady (r : spaces.Content) (b : buddies.Content) (s : Content) (t 
       → (c : ℕ) × (cache : own.Cache) × IsSlab r s t c f n cache
   pub sound : IsSound s.top (λ u. is_some (spaces.superblock_at r.slots t u)) (buddies.taken_of (buddies.holding_of t b))
   -- taken blocks begin at frames below 65,536, so their first places fit in 32 bits
-  pub few : (f k : ℕ) → buddies.taken_of (buddies.holding_of t b) f ≡ Some k → f < 65536
+  pub few : (f k : ℕ) → buddies.taken_of (buddies.holding_of t b) f ≡ Some k → f < MAX_FRAMES
   -- no superblock is in two slots of the tenant
   pub apart : (u v m : ℕ) → spaces.superblock_at r.slots t u ≡ Some m → spaces.superblock_at r.slots t v ≡ Some m → u ≡ v

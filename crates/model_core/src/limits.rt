@@ -21,6 +21,9 @@ pub const MAX_ORDER: u8 = 8;
 /// The largest number of superblocks of a machine. The least is 1.
 pub const MAX_SUPERBLOCKS: u16 = 256;
 
+/// The largest number of frames of a machine, and so of a tenant: those of `MAX_SUPERBLOCKS` superblocks of order `MAX_ORDER`.
+pub const MAX_FRAMES: u32 = 65_536;
+
 /// The largest number of tenants of a machine. The least is 1.
 pub const MAX_TENANTS: u8 = 64;
 

@@ -4,6 +4,7 @@ use Rattle.std.specs.List.{position_or_len}
 use Rattle.std.proofs.lemmas.Bool.{false≢true}
 use Rattle.std.proofs.lemmas.Nat.{row_fits}
 use Rattle.std.proofs.Math.Nat.{pow-le-pow_right, div-div-eq-div-mul}
+use Rattle.model_core.specs.declared.limits.TheConstants.{MAX_FRAMES}
 use Rattle.model_core.specs.Blocks.{block, HasFrame}
 use Rattle.model_core.proofs.BlocksByNumber.{number_of_frame, same_slot}
 use Rattle.model_core.specs.Layouts.{IsFit, object_offset, object_place}
@@ -67,7 +68,7 @@ module _ {r : spaces.Content} {b : buddies.Content} {s : Content} {t c f n i : �
   pub not_live : is_live r t cache (kept_at s.kept n) f i ≡ false
   not_live = sym (flag_at (layout_numbers cache).count i (is_live r t cache (kept_at s.kept n) f) false object_below) ∙ is_down.down
 
-  pub first_few : f < 65536
+  pub first_few : f < MAX_FRAMES
   first_few = o.steady.few f (layout_numbers cache).order h.taken
 
   pub offset_few : object_offset (layout_numbers cache) (kept_at s.kept n).colour i < 32769

@@ -1,7 +1,7 @@
 //! Decides whether a block would fit if all empty slabs were freed.
 
 ghost use Rattle.std.specs.Prelude.{◌≡◌, ◌↔◌, ℕ, ◌-◌, ◌*◌, ◌^◌, ◌<◌, ◌≤◌, true, false, is_some, length, MatchOption};
-ghost use Rattle.model_core.specs.declared.limits.TheConstants.{MAX_CACHES, MAX_ORDER};
+ghost use Rattle.model_core.specs.declared.limits.TheConstants.{MAX_CACHES, MAX_FRAMES, MAX_ORDER};
 ghost use Rattle.model_core.specs.Machine.{Machine, choice};
 ghost use Rattle.model_core.specs.Slabs.{reaped};
 ghost use Rattle.machine_changes.specs.Fitting.{WouldFit};
@@ -178,7 +178,7 @@ impl View<'_> {
     /// Returns true if no frame of the block of order `k` at frame `first` is taken, except by empty slabs.
     fn is_unused_block(self, first: u32, k: u8) -> bool
         requires tenant { self.tenant < length self.space.now.slots }
-        requires first { first < 65536 }
+        requires first { first < MAX_FRAMES }
         requires block { IsWhole self.buddy.now self.tenant first k }
         requires parts { HoldTogether self.space.now self.buddy.now self.tables.now }
         requires steady { IsSteady self.space.now self.buddy.now self.tables.now self.tenant }

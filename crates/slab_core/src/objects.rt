@@ -1,7 +1,7 @@
 //! Finds the object that begins at a place, tests whether it is live, and marks it free.
 
 ghost use Rattle.std.specs.Prelude.{◌≡◌, ℕ, ◌*◌, ◌+◌, ◌/◌, ◌%◌, ◌^◌, ◌<◌, ◌≤◌, Some, length, IfSome, MatchOption, not, true, false};
-ghost use Rattle.model_core.specs.declared.limits.TheConstants.{FRAME_BYTES, RECORD_OFFSET, MAX_CACHES, MAX_ORDER};
+ghost use Rattle.model_core.specs.declared.limits.TheConstants.{FRAME_BYTES, MAX_CACHES, MAX_FRAMES, MAX_ORDER, RECORD_OFFSET};
 ghost use Rattle.model_core.specs.Blocks.{around};
 ghost use Rattle.slab_tables.specs.Content.{Content, IsSlabs, kept_at, cache_at, index_of_cache, layout_numbers};
 ghost use Rattle.machine_changes.specs.Records.{is_set};
@@ -45,7 +45,7 @@ pub(crate) struct Object {
 
 /// Returns the place of the byte that contains the bit of object `index` in the control record in frame `frame`.
 pub(crate) fn record_place(frame: u32, index: u32) -> u32
-    requires frame { frame < 65536 }
+    requires frame { frame < MAX_FRAMES }
     requires index { index < 256 }
     ensures { result ≡ FRAME_BYTES * frame + RECORD_OFFSET + index / 8 }
 {

@@ -26,7 +26,7 @@ pub(crate) struct Groups {
     /// For each list, true if it is kept in groups.
     kept: Vec<bool>,
     superblocks: Vec<u32>,
-    ghost order_small: { order ≤ 8 },
+    ghost order_small: { order ≤ MAX_ORDER },
     ghost group_small: { group ≤ 5 },
     ghost span_small: { span ≤ 32 },
 }

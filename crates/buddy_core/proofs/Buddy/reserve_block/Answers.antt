@@ -4,6 +4,7 @@ use Rattle.std.specs.Prelude.{slice_index, IfNone}
 use Rattle.std.proofs.lemmas.List.{get_or_read}
 use Rattle.std.proofs.lemmas.Nat.{shl_whole, mul-le, div-mul-add}
 use Rattle.std.proofs.Math.Pow.{pow_mono}
+use Rattle.model_core.specs.declared.limits.TheConstants.{MAX_SUPERBLOCKS}
 use Rattle.model_core.specs.Blocks.{block, IsChoice, IsWithout}
 use Rattle.buddy_core.specs.Content.{holding_of, superblock_at, is_held, taken_of, with_holding, with_block}
 use Rattle.buddy_core.specs.Counts.{CanCountMore}
@@ -255,7 +256,7 @@ returns-clause-done c =
     let step = reserved g.After-count_reserved at (tenant_before g.After-index_mut s.listed) in
     let changed = step_change a.order a.superblocks.items a.tenants.items c.args.t p.slot p.superblock x c.reserve_at.new.self c.count_reserved.new.self (Some c.args.k) c.self.invariant.0 step in
     let f = p.slot * 2 ^ a.order + x in
-    let slot_lt : p.slot < 256 = slot_small a.order a.superblocks.items a.tenants.items c.self.invariant.0 c.args.t s.listed p.slot p.superblock at.source.at in
+    let slot_lt : p.slot < MAX_SUPERBLOCKS = slot_small a.order a.superblocks.items a.tenants.items c.self.invariant.0 c.args.t s.listed p.slot p.superblock at.source.at in
     let f_is : c.from-slot.result * 2 ^ a.order % 4294967296 + x ≡ p.slot * 2 ^ a.order + x
     = ap (λ n. n * 2 ^ a.order % 4294967296 + x) c.from-slot.ensures ∙ ap (λ n. n + x) (shl_whole p.slot 8 a.order 32 (omega arith) (let small = c.self.invariant.0.small in omega arith)) in
     let choice = by_shown (λ top held taken. IsChoice top held taken c.args.k (block f p.order)) a.order a.superblocks.items a.tenants.items c.args.t c.args.self.now s
@@ -283,7 +284,7 @@ returns-clause-under c =
     let s = shown g.After-index in
     let at = found g.After-search-first s.listed (source g.After-index_mut-superblock (tenant_read g.After-index)) in
     let top = s.order in
-    let slot_lt : p.slot < 256 = slot_small a.order a.superblocks.items a.tenants.items c.self.invariant.0 c.args.t s.listed p.slot p.superblock at.source.at in
+    let slot_lt : p.slot < MAX_SUPERBLOCKS = slot_small a.order a.superblocks.items a.tenants.items c.self.invariant.0 c.args.t s.listed p.slot p.superblock at.source.at in
     let f_is : c.from-slot.result * 2 ^ a.order % 4294967296 + x ≡ p.slot * 2 ^ a.order + x
     = ap (λ n. n * 2 ^ a.order % 4294967296 + x) c.from-slot.ensures ∙ ap (λ n. n + x) (shl_whole p.slot 8 a.order 32 (omega arith) (let small = c.self.invariant.0.small in omega arith)) in
     let slot : (c.from-slot.result * 2 ^ a.order % 4294967296 + x) / 2 ^ c.args.self.now.top ≡ p.slot

@@ -1,6 +1,7 @@
 use Rattle.std.proofs.Common.{◌≡◌, ◌*◌, ◌%◌, ◌^◌, ◌≤◌, Some, sym, ap, ◌∙◌, subst, arith}
 use Rattle.std.specs.Prelude.{option_map}
 use Rattle.std.proofs.lemmas.List.Sums.{count_by-le-length}
+use Rattle.model_core.specs.declared.limits.TheConstants.{MAX_FRAMES}
 use Rattle.model_core.specs.Layouts.{IsLayout}
 use Rattle.klist_core.specs.Places.{is_in}
 use Rattle.klist_core.proofs.KeyNodePairs.{lists_count_places}
@@ -18,7 +19,7 @@ cut : (c : goal.After-order) → IsLayout c.in-Some.cache.now.layout.size c.in-S
 cut c = (in_tables c.self.inside.tables c.args.t c.args.c c.in-Some.cache.now c.laws.ensures.slabs (cached c)).layout
 
 -- the list of empty slabs has at most 65,536 entries
-few : (c : goal.After-order) → c.count.result ≤ 65536
+few : (c : goal.After-order) → c.count.result ≤ MAX_FRAMES
 few c =
     let places = c.self.inside.tables.lists.places in
     let counted = lists_count_places places (head_of c.args.t c.args.c 2) in

@@ -1,4 +1,5 @@
 use Rattle.std.proofs.Common.{◌≤◌, ap, sym, subst, ◌∙◌}
+use Rattle.model_core.specs.declared.limits.TheConstants.{MAX_ORDER}
 use Rattle.words_core.specs.declared.event.Event.TheVariants as On
 use Rattle.words_core.specs.declared.event.Command.TheVariants as Command
 use Rattle.words_core.specs.declared.reply.Body.TheVariants as Say
@@ -26,7 +27,7 @@ returns c t w =
 
 pub new-requires : goal.new-requires
 new-requires c = cut_where_allowed c.args.layout.size c.args.layout.align 0 c.args.number c.args.layout.chunk c.args.layout.order c.args.layout.count c.args.layout.colours c.args.pattern.now nothing c.args.self.now
-    (subst (λ (y : Seen). y.left.order ≤ 8) c.self.view_is c.self.invariant.sized) (sym (c.in_ok-judge_layout.ensures 0 c.args.pattern.now nothing))
+    (subst (λ (y : Seen). y.left.order ≤ MAX_ORDER) c.self.view_is c.self.invariant.sized) (sym (c.in_ok-judge_layout.ensures 0 c.args.pattern.now nothing))
 
 pub make_cache-requires : goal.make_cache-requires
 make_cache-requires c = ap (λ y. known_cache c.self.inside.held y.number) c.new.ensures ∙ (ap (λ (y : Seen). known_cache y.has c.args.number) c.self.view_is

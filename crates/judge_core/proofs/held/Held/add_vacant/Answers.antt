@@ -2,6 +2,7 @@ use Rattle.std.proofs.Common.{◌≡◌, ◌*◌, ◌%◌, ◌^◌, ◌≤◌, �
 use Rattle.std.proofs.lemmas.Grind.{common_steps}
 use Rattle.std.proofs.lemmas.Nat.{one_shl}
 use Rattle.std.proofs.Math.Pow.{pow_mono}
+use Rattle.model_core.specs.declared.limits.TheConstants.{MAX_ORDER}
 use Rattle.promise_core.specs.Holdings.{is_vacant, blocks_of_slot}
 use Rattle.judge_core.proofs.VacantBlockMarks.{pairs_of, joined, clear_are}
 use Rattle.judge_core.proofs.held.Held.add_vacant.Goals as goal
@@ -14,7 +15,7 @@ loop-k-preserved c =
     let slot = c.args.slot in
     let inside : k ≤ order = omega (arith, c.loop-k-test.true) in
     let blocks : 1 * 2 ^ (order - k) % 18446744073709551616 ≡ 2 ^ (order - k) = one_shl (order - k) 64 (omega (arith, c.requires.order)) in
-    let least : order - k ≤ 8 = omega (arith, c.requires.order) in
+    let least : order - k ≤ MAX_ORDER = omega (arith, c.requires.order) in
     let small : 2 ^ (order - k) ≤ 2 ^ 8 = pow_mono least in
     let marks = c.loop-k.invariant.marks inside in
     let counted : c.count_clear.result ≡ length (filter (is_vacant h) (blocks_of_slot order k slot)) =

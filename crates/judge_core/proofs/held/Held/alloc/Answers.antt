@@ -1,4 +1,5 @@
 use Rattle.std.proofs.Common.{◌≡◌, ℕ, ◌≤◌, max, sym, ap, ◌∙◌, subst, arith}
+use Rattle.model_core.specs.declared.limits.TheConstants.{MAX_ORDER}
 use Rattle.judge_core.specs.Inside.{ArePages}
 use Rattle.judge_core.proofs.PageBlocks.{pages_put}
 use Rattle.judge_core.proofs.held.Held.alloc.Goals as goal
@@ -8,7 +9,7 @@ returns-clause-taken c = rw (c.in_ok-put.ensures.put, ← c.self.view_is)
 
 pub invariant_of-self-2 : goal.invariant_of-self-2
 invariant_of-self-2 c =
-    let small : c.args.block.order ≤ 8 = omega (arith, c.order.ensures.value, c.order.ensures.most) in
+    let small : c.args.block.order ≤ MAX_ORDER = omega (arith, c.order.ensures.value, c.order.ensures.most) in
     let longest : c.max-self-inside.result ≡ max c.self.inside.longest c.args.block.order = c.max-self-inside.ensures
     ∙ ap (max c.self.inside.longest) c.order.ensures.value in (
       c.self.invariant.0,

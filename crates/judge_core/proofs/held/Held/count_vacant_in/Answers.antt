@@ -1,6 +1,7 @@
 use Rattle.std.proofs.Common.{◌≡◌, ◌-◌, ◌*◌, ◌%◌, ◌^◌, ◌≤◌, not, length, filter, take, sym, ap, ◌∙◌, arith}
 use Rattle.std.proofs.lemmas.Nat.{one_shl}
 use Rattle.std.proofs.Math.Pow.{pow_mono}
+use Rattle.model_core.specs.declared.limits.TheConstants.{MAX_ORDER}
 use Rattle.model_core.specs.Blocks.{Block, block}
 use Rattle.promise_core.specs.Holdings.{is_vacant}
 use Rattle.judge_core.proofs.ComputedTests.{vacant_from}
@@ -15,7 +16,7 @@ returns-clause-value c =
     let frames : c.args.k ≡ 0 = omega (arith, c.if-k-gt0.false) in
     let whole : 2 ^ order ≡ 2 ^ (order - c.args.k) = ap (λ n. 2 ^ n) (omega (arith, frames)) in
     let blocks : 1 * 2 ^ order % 18446744073709551616 ≡ 2 ^ order = one_shl order 64 (omega (arith, c.requires.order)) in
-    let least : order ≤ 8 = c.requires.order in
+    let least : order ≤ MAX_ORDER = c.requires.order in
     let small : 2 ^ order ≤ 2 ^ 8 = pow_mono least in
     let first : c.of_slot.result.first ≡ slot * 2 ^ order = ap (λ (b : Block). b.first) c.of_slot.ensures in
     c.count_clear.ensures.value ∙ ap (λ n. length (filter not (take n c.taken_in-taken.result))) blocks

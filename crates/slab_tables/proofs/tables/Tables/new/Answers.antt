@@ -1,5 +1,6 @@
 use Rattle.std.proofs.Common.{◌≡◌, ◌*◌, ◌%◌, ◌^◌, ◌≤◌, rules, arith}
 use Rattle.std.proofs.Math.Nat.{pow-le-pow_right, mul-le-mul}
+use Rattle.model_core.specs.declared.limits.TheConstants.{MAX_FRAMES}
 use Rattle.slab_tables.proofs.CacheNumberBound.{below_opening}
 use Rattle.slab_tables.proofs.InvariantKept.{slabs_opening}
 use Rattle.slab_tables.proofs.tables.Tables.new.Goals as goal
@@ -8,7 +9,7 @@ pub invariant_of-result : goal.invariant_of-result
 invariant_of-result c =
     let whole = slabs_opening c.args.order c.args.superblocks c.args.tenants c.requires.order c.requires.superblocks c.requires.tenants in
     let powers : 2 ^ c.args.order ≤ 2 ^ 8 = pow-le-pow_right {n = 2} (omega arith) c.requires.order in
-    let most : c.args.superblocks * 2 ^ c.args.order ≤ 65536 = omega (arith, mul-le-mul {n₁ = c.args.superblocks} {m₁ = 2 ^ c.args.order} c.requires.superblocks powers) in
+    let most : c.args.superblocks * 2 ^ c.args.order ≤ MAX_FRAMES = omega (arith, mul-le-mul {n₁ = c.args.superblocks} {m₁ = 2 ^ c.args.order} c.requires.superblocks powers) in
     let lists = c.in_ok-new.ensures in
     let kept = c.in_ok-vec.ensures.items_if_clones_equal (λ y h. search rules) in
     let caches = c.in_ok-vec-2.ensures.items_if_clones_equal (λ y h. search rules) in
