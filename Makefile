@@ -23,7 +23,7 @@ try: ## runs partmem on an example, without proofs (2 minutes)
 unproved: ## builds the programs and the library for C without proofs (2 minutes)
 	tools/unproved $(PROGRAMS) library
 quick: ## runs the tests that need no proof, over builds without proofs
-	tests/quick
+	$(AS_A_USER) tests/quick
 prove: ## proves all crates and builds the programs, without tests
 	@rt all check --jobs $(JOBS) >&2
 	@for name in $(PROGRAMS); do \
