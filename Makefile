@@ -22,7 +22,7 @@ try: ## runs partmem on an example, without proofs (2 minutes)
 	cd crates/partmem && rt try -- --order 3 --superblocks 2 --tenants 2 < ../../examples/tenants.trace
 unproved: ## builds the programs and the library for C without proofs (2 minutes)
 	tools/unproved $(PROGRAMS) library
-quick: ## runs the tests that need no proof, over builds without proofs
+quick: ## runs the tests that need no proof, over builds without proofs (16 minutes)
 	$(AS_A_USER) tests/quick
 prove: ## proves all crates and builds the programs, without tests
 	@rt all check --jobs $(JOBS) >&2
