@@ -52,8 +52,6 @@ $(addprefix check-,$(OVER_PROGRAMS)): proved
 $(addprefix check-,$(OVER_LIBRARY)): library
 # Scripts run without the variables of this `make`. A `make` that they run would otherwise print the folders that it enters.
 AS_A_USER := env -u MAKEFLAGS -u MFLAGS -u MAKELEVEL
-check-pasted-first: ; $(AS_A_USER) tests/pasted --first
-IN_FOLDERS := $(addprefix check-,edits in-place heap watched cpp)
-$(IN_FOLDERS): check-%: ; $(AS_A_USER) tests/$*/run
-$(filter-out check-pasted-first $(IN_FOLDERS),$(CHECKS)): check-%:
-	$(AS_A_USER) tests/$*
+# check-NAME runs the script of NAME, and check-pasted-first runs that of `pasted` with --first.
+$(CHECKS): check-%:
+	$(AS_A_USER) $(or $(wildcard tests/$(*:-first=)/run),tests/$(*:-first=)) $(if $(filter %-first,$*),--first)
