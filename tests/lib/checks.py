@@ -135,8 +135,8 @@ def run(said=None, given=None):
         sys.stderr.write(report.getvalue())
     for check, reason in ended.skipped:
         say(f"skipped {check}: {reason}")
-    counts = [f"{ended.testsRun - len(failed) - len(ended.skipped)} passed"]
-    counts += [f"{len(ended.skipped)} skipped"] * bool(ended.skipped) + [f"{len(failed)} failed: {', '.join(failed)}"] * bool(failed)
-    is_whole = said and not failed and not given.k
-    say(f"{said()} ({', '.join(counts)})" if is_whole else ", ".join(counts))
+    counts = f"{ended.testsRun - len(failed) - len(ended.skipped)} passed"
+    counts += f", {len(ended.skipped)} skipped" if ended.skipped else ""
+    counts += f", {len(failed)} failed: {', '.join(failed)}" if failed else ""
+    say(f"{said()} ({counts})" if said and not failed and not given.k else counts)
     sys.exit(bool(failed))
