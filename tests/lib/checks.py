@@ -120,13 +120,18 @@ def parser():
     return made
 
 
+def is_chosen(name, given):
+    """Returns whether a parsed command line chooses the check with this name."""
+    return not given.k or any(text in name for text in given.k)
+
+
 def run(said=None, given=None):
     """Runs the checks, and ends the script. If all of them have run and none has failed, the last line begins with the text that
     `said` returns. `given` is the parsed command line; the default is for scripts that have no words of their own."""
     given = given or parser().parse_args()
-    chosen = [Check(*it) for it in named_checks() if not given.k or any(text in it[0] for text in given.k)]
+    chosen = [Check(*it) for it in named_checks() if is_chosen(it[0], given)]
     if not chosen:
-        sys.exit(f"{NAME}: no check has {' or '.join(given.k)} in its name")
+        sys.exit(f"{NAME}: no check has {' or '.join(given.k or [])} in its name")
     report = sys.stderr if given.v else io.StringIO()
     runner = unittest.TextTestRunner(report, descriptions=False, verbosity=2 * given.v, failfast=given.f)
     ended = runner.run(unittest.TestSuite(chosen))
