@@ -36,10 +36,15 @@ def fail(text):
 
 
 def look(right, text):
-    """Fails the check that is running unless `right`. Counts how often it is called."""
+    """Fails the check that is running unless `right`."""
     next(LOOKS)
     if not right:
         fail(text)
+
+
+def count_looks():
+    """Returns how often `look` was called. May be called once."""
+    return next(LOOKS)
 
 
 def fail_for(faults):
