@@ -1,4 +1,4 @@
-/* Allocates memory in functions of known names. tests/machines checks that machines/from-malloc finds these names by the
+/* Allocates memory in functions of known names. tests/machines/run checks that machines/from-malloc finds these names by the
  * addresses in a log of machines/malloc_log.c. */
 #include <stdlib.h>
 
