@@ -132,7 +132,8 @@ def is_chosen(name, given):
 
 def run(said=None, given=None):
     """Runs the checks, and ends the script. If all of them have run and none has failed, the last line begins with the text that
-    `said` returns. `given` is the parsed command line; the default is for scripts that have no words of their own."""
+    `said` returns, if it returns one. `given` is the parsed command line; the default is for scripts that have no words of their
+    own."""
     given = given or parser().parse_args()
     chosen = [Check(*it) for it in named_checks() if is_chosen(it[0], given)]
     if not chosen:
@@ -148,5 +149,6 @@ def run(said=None, given=None):
     counts = f"{ended.testsRun - len(failed) - len(ended.skipped)} passed"
     counts += f", {len(ended.skipped)} skipped" if ended.skipped else ""
     counts += f", {len(failed)} failed: {', '.join(failed)}" if failed else ""
-    say(f"{said()} ({counts})" if said and not failed and not given.k else counts)
+    whole = said() if said and not failed and not given.k else None
+    say(f"{whole} ({counts})" if whole else counts)
     sys.exit(bool(failed))

@@ -15,8 +15,8 @@
  * registers. So the program follows itself, which takes a fourth of the time of ptrace and needs no permission to trace. The
  * program turns address randomisation off. Link it statically, so that each instruction has the same address in every run.
  *
- * The file "operands", if there is one in the working folder, has the memory operand of each instruction (as tests/same-path reads
- * them from a disassembly). A block that boot took has one part for each superblock if its size is a multiple of the number of
+ * The file "operands", if there is one in the working folder, has the memory operand of each instruction (as the script reads them
+ * from a disassembly). A block that boot took has one part for each superblock if its size is a multiple of the number of
  * superblocks; for a block that grew in boot, this number is rounded up to a power of two. Any other block is a single part. The
  * hash of an access to a block is made of the block's size (plus 1 if the block is in the RAM), the number of the part, and the
  * offset in the part. In each command, parts are numbered in the order of their first access. So equal hashes mean equal

@@ -1,9 +1,9 @@
-"""Makes the traces of tests/same-path: a mixed one of several tenants, and for each tenant one with only its own list.
+"""Makes the traces of tests/same-path/run: a mixed one of several tenants, and for each tenant one with only its own list.
 
 A tenant's own list is its commands, and the administrator's grants, take-backs and resets for it that are not refused. Only the
 mixed trace has moves, `admin pool`, broken lines, refused grants and take-backs, and the commands of the other tenants. Each line
 depends on the library's replies to the lines before, so the traces use the frames and places that the library returns. A command
-is followed if tests/same-path compares its instructions. The same seed makes the same traces.
+is followed if tests/same-path/run compares its instructions. The same seed makes the same traces.
 """
 import random
 
