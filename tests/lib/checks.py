@@ -131,9 +131,9 @@ def is_chosen(name, given):
 
 
 def run(said=None, given=None):
-    """Runs the checks, and ends the script. If all of them have run and none has failed, the last line begins with the text that
-    `said` returns, if it returns one. `given` is the parsed command line; the default is for scripts that have no words of their
-    own."""
+    """Runs the checks, and ends the script. If all were chosen, none has failed and some have passed, the last line begins with
+    the text that `said` returns, if it returns one. `given` is the parsed command line; the default is for scripts that have no
+    words of their own."""
     given = given or parser().parse_args()
     chosen = [Check(*it) for it in named_checks() if is_chosen(it[0], given)]
     if not chosen:
@@ -146,9 +146,10 @@ def run(said=None, given=None):
         sys.stderr.write(report.getvalue())
     for check, reason in ended.skipped:
         say(f"skipped {check}: {reason}")
-    counts = f"{ended.testsRun - len(failed) - len(ended.skipped)} passed"
+    passed = ended.testsRun - len(failed) - len(ended.skipped)
+    counts = f"{passed} passed"
     counts += f", {len(ended.skipped)} skipped" if ended.skipped else ""
     counts += f", {len(failed)} failed: {', '.join(failed)}" if failed else ""
-    whole = said() if said and not failed and not given.k else None
+    whole = said() if said and passed and not failed and not given.k else None
     say(f"{whole} ({counts})" if whole else counts)
     sys.exit(bool(failed))
