@@ -1,4 +1,4 @@
-"""Faults of allocators, as changes of tests/conformance_lists.c and conformance_slabs.c, with the promises that find them."""
+"""Faults of allocators, as changes of lists.c and slabs.c, with the promises that find them."""
 from typing import NamedTuple
 
 FEW, MANY = 14, 420

@@ -3,8 +3,8 @@ import os
 import random
 import resource
 import subprocess
-import sys
 
+from checks import fail
 from checking import judge, report, runs, talk, traces
 from checking.words import Sizes
 
@@ -46,10 +46,10 @@ def shown(case, name):
     """Checks that the report of a case is ASCII without long lines, and that its saved trace can be read again."""
     said = '\n'.join(report.report_of(name, case))
     if not said.isascii() or max(map(len, said.split('\n'))) > 4000:
-        sys.exit(f'conformance: fuzz: {said!r} is printed')
+        fail(f'{said!r} is printed')
     traces.save(f'{name}.saved', case, [name])
     if traces.read(f'{name}.saved', Sizes(None, None, None))[0] != case.run.sizes:
-        sys.exit(f'conformance: fuzz: {name}.saved is not read as it was')
+        fail(f'{name}.saved is not read as it was')
 
 
 def fuzz_replies(work, options, rng, count):
@@ -96,5 +96,5 @@ def fuzz(work, options, count):
     wrong = fuzz_traces(work, options, rng, count // 2)
     most = resource.getrusage(resource.RUSAGE_SELF).ru_maxrss
     if most > MAX_MEMORY:
-        sys.exit(f'conformance: fuzz: {most} KiB of memory')
+        fail(f'{most} KiB of memory')
     return found + wrong

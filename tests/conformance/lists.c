@@ -1,4 +1,4 @@
-/* A buddy allocator like Linux's, behind conformance/adapter.h. tests/conformance makes wrong copies of it. Each tenant has a
+/* A buddy allocator like Linux's, behind conformance/adapter.h. `run` makes wrong copies of it. Each tenant has a
  * list of free blocks for each order, last in first out. A freed block is joined with its buddy as long as the buddy is
  * free. The allocator has no caches. */
 #include "adapter.h"

@@ -1,4 +1,4 @@
-/* A buddy allocator with caches, behind conformance/adapter.h. tests/conformance makes wrong copies of it. Each slot has a tree.
+/* A buddy allocator with caches, behind conformance/adapter.h. `run` makes wrong copies of it. Each slot has a tree.
  * The node of a block has the greatest order of a free block inside this block. A block comes from the first slot that has a free
  * block large enough. A cache keeps its empty slabs until frames are short. The records of slabs are outside the frames. */
 #include "adapter.h"
