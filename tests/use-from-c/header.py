@@ -1,10 +1,13 @@
-"""Compares crates/partmem_c/partmem.h, and two functions that memory.c declares, with the exports, structs and constants of the
+"""Reads crates/partmem_c/partmem.h, and two functions that memory.c declares, and the exports, structs and constants of the
 crate's source.
 
-Fails if they differ, if the header has text that is not compared, or if an export or a struct of the source was not read."""
+Fails if the header has text that is not compared, or if an export or a struct of the source was not read."""
+import functools
 import glob
+import os
 import re
-import sys
+
+from checks import TOP, fail
 
 LIMITS = "FRAME_BYTES MIN_ORDER MAX_ORDER MAX_SUPERBLOCKS MAX_TENANTS MAX_CACHES MAX_PATTERN MAX_BYTES".split()
 # Maps types of Rust to types of C.
@@ -24,18 +27,14 @@ DECLARED = re.compile(r"((?:const )?\w+(?: \*)?) ?(\w+)(\[[\w +]+\])?")
 
 
 def read(path, comments):
-    with open(path, encoding="utf-8") as file:
+    with open(os.path.join(TOP, path), encoding="utf-8") as file:
         return re.sub(comments, " ", file.read(), flags=re.S)
 
 
 header = read("crates/partmem_c/partmem.h", r"/\*.*?\*/")
 in_memory = " ".join(read("crates/partmem_c/memory.c", r"/\*.*?\*/").split())
-sources = {path: read(path, r"//[^\n]*") for path in glob.glob("crates/partmem_c/src/*.rt")}
+sources = {path: read(path, r"//[^\n]*") for path in glob.glob(f"{TOP}/crates/partmem_c/src/*.rt")}
 source = "\n".join(sources.values())
-
-
-def fail(text):
-    sys.exit(f"partmem.h: {text}")
 
 
 def declared(text):
@@ -44,6 +43,7 @@ def declared(text):
     return (found[2], found[1] + (found[3] or "")) if found else fail(f"not read: {text!r}")
 
 
+@functools.cache
 def parts_of_header():
     """Returns the macros, enums, structs and functions of the header. Fails if it has anything else, apart from preprocessor
     lines and inline functions."""
@@ -76,8 +76,8 @@ def of_rust(text):
     return TYPES.get(text) or names.get(text) or fail(f"no type of the header: {text}")
 
 
-def exports_of_header(functions):
-    for result, name, parameters in functions:
+def exports_of_header(found):
+    for result, name, parameters in found:
         if name in IN_C:
             continue
         if result != ("uint32_t" if name in NUMBERS else "partmem_status"):
@@ -114,8 +114,8 @@ def exports_of_source(in_header):
         yield name, flat
 
 
-def structs_of_header(structs):
-    for tag, fields, name in structs:
+def structs_of_header(found):
+    for tag, fields, name in found:
         if tag != name:
             fail(f"struct {tag} is named {name}")
         yield name, [declared(field) for field in fields.split(";")[:-1]]
@@ -123,11 +123,11 @@ def structs_of_header(structs):
 
 def structs_of_source(in_header):
     """Yields the structs of the source, except MachineStorage and Slot, whose fields the header does not show."""
-    structs = re.findall(r"#\[repr\(C\)\]\s*(?:#\[[^\]]*\]\s*)*pub struct (\w+) \{(.*?)\n\}", source, re.S)
-    if len(structs) != source.count("repr("):
-        fail(f"the source has {source.count('repr(')} structs for C, of which {len(structs)} were read")
+    found = re.findall(r"#\[repr\(C\)\]\s*(?:#\[[^\]]*\]\s*)*pub struct (\w+) \{(.*?)\n\}", source, re.S)
+    if len(found) != source.count("repr("):
+        fail(f"the source has {source.count('repr(')} structs for C, of which {len(found)} were read")
     read_of = {}
-    for name, fields in structs:
+    for name, fields in found:
         lines = [line.strip().rstrip(",").removeprefix("pub ") for line in fields.splitlines()]
         pairs = [line.split(": ", 1) for line in lines if line and not line.startswith("ghost")]
         read_of[name] = [(FIELDS.get(field, field), kind) for field, kind in pairs]
@@ -143,9 +143,9 @@ def structs_of_source(in_header):
         yield names.get(name) or fail(f"no struct of the header: {name}"), [(field, of_rust(kind)) for field, kind in fields]
 
 
-def plain(structs, limits):
+def plain(found, limits):
     """Yields the structs with numbers as the lengths of arrays, and with integers instead of enums."""
-    for name, fields in structs.items():
+    for name, fields in found.items():
         kinds = [re.sub(r"\[(.*)\]", lambda found: f"[{length(found[1], limits)}]", kind) for _, kind in fields]
         yield name, [(field, kind.replace("partmem_use", "uint32_t")) for (field, _), kind in zip(fields, kinds)]
 
@@ -183,36 +183,44 @@ def by_name(what, pairs):
     return dict(pairs)
 
 
-def compare(what, in_header, in_source):
-    for name in sorted(in_header.keys() | in_source.keys()):
-        if in_header.get(name) != in_source.get(name):
-            fail(f"{what} {name}: {in_header.get(name)} in the header, {in_source.get(name)} in the source")
-    assert in_header, what
-    return len(in_header)
-
-
-macros, enums, structs, functions = parts_of_header()
-numbers = macros + [pair for text, _ in enums for pair in constants(text)]
-numbers = by_name("number", [(name, int(number, 0)) for name, number in numbers])
 # Constants that only C has: the version, the number that is no place, two that make the enums 32 bits wide, and the statuses that
 # only functions in C return.
-OF_C = {"VERSION": 20000, "NO_PLACE": 2 ** 32 - 1, "STATUS_BITS": 2 ** 31 - 1, "USE_BITS": 2 ** 31 - 1, "BAD_MEMORY": 35, "NOT_HELD": 38}
-for name, number in OF_C.items():
-    if numbers.pop(name, None) != number:
-        fail(f"PARTMEM_{name} is not {number}")
-of_source = by_name("number", numbers_of_source())
-of_kernel = [it for it in FUNCTION.findall(in_memory) if it[1].endswith("_kernel")]
-exports = by_name("function", exports_of_header(functions + of_kernel))
-exports_in_source = by_name("function", exports_of_source(exports))
-in_header = by_name("struct", structs_of_header(structs))
-if in_header.pop("partmem_machine", None) != [("held", "void *[3]")] or \
-        in_header.pop("partmem_tenant", None) != [("machine", "partmem_machine *"), ("number", "uint32_t")] or \
-        in_header.pop("partmem_memory", None) != [("ram", "void *"), ("tables", "void *")]:
-    fail("partmem_machine, partmem_tenant or partmem_memory has other fields than this test expects")
-in_source = by_name("struct", structs_of_source(in_header))
-found = [
-    f"{compare('function', exports, exports_in_source)} functions",
-    f"{compare('struct', dict(plain(in_header, of_source)), dict(plain(in_source, of_source)))} structs",
-    f"{compare('number', numbers, of_source)} numbers",
-]
-print(f"partmem.h: {', '.join(found)} are those of the source")
+OF_C = {"VERSION": 20000, "NO_PLACE": 2 ** 32 - 1, "STATUS_BITS": 2 ** 31 - 1, "USE_BITS": 2 ** 31 - 1, "BAD_MEMORY": 35,
+        "NOT_HELD": 38}
+
+
+@functools.cache
+def numbers():
+    """Returns the constants of the header, without those that only C has, and those of the source."""
+    macros, enums, _, _ = parts_of_header()
+    pairs = macros + [pair for text, _ in enums for pair in constants(text)]
+    found = by_name("number", [(name, int(number, 0)) for name, number in pairs])
+    for name, number in OF_C.items():
+        if found.pop(name, None) != number:
+            fail(f"PARTMEM_{name} is not {number}")
+    return found, by_name("number", numbers_of_source())
+
+
+@functools.cache
+def functions():
+    """Returns the functions of the header and of the source, with their parameters."""
+    of_kernel = [it for it in FUNCTION.findall(in_memory) if it[1].endswith("_kernel")]
+    exports = by_name("function", exports_of_header(parts_of_header()[3] + of_kernel))
+    return exports, by_name("function", exports_of_source(exports))
+
+
+@functools.cache
+def structs():
+    """Returns the structs of the header and of the source, with their fields."""
+    functions()     # names the structs of parameters
+    in_header = by_name("struct", structs_of_header(parts_of_header()[2]))
+    if in_header.pop("partmem_machine", None) != [("held", "void *[3]")] or \
+            in_header.pop("partmem_tenant", None) != [("machine", "partmem_machine *"), ("number", "uint32_t")] or \
+            in_header.pop("partmem_memory", None) != [("ram", "void *"), ("tables", "void *")]:
+        fail("partmem_machine, partmem_tenant or partmem_memory has other fields than this test expects")
+    in_source = by_name("struct", structs_of_source(in_header))
+    limits = numbers()[1]
+    return dict(plain(in_header, limits)), dict(plain(in_source, limits))
+
+
+KINDS = {"functions": functions, "structs": structs, "numbers": numbers}
