@@ -261,8 +261,8 @@ fn memory_that_is_too_small_or_not_aligned_is_refused() {
     assert_eq!(machine.lend(&machine.alloc(Tenant(0), 0).unwrap()).unwrap()[..], [0; 4096]);
 }
 
-/// The sum of `PARTMEM_TABLE_BYTES` over all sizes of a machine, each rounded up to a multiple of 16. tests/rust checks it with
-/// the header.
+/// The sum of `PARTMEM_TABLE_BYTES` over all sizes of a machine, each rounded up to a multiple of 16. tests/rust/run checks it
+/// with the header.
 const TABLES_OF_ALL: usize = 102_610_436_096;
 
 #[test]
