@@ -18,12 +18,13 @@ import shutil
 import sys
 import tempfile
 import unittest
+from concurrent.futures import ThreadPoolExecutor
 
 __unittest = True   # Then unittest leaves the functions of this module out of its traces.
 TOP = os.path.dirname(os.path.dirname(os.path.dirname(os.path.abspath(__file__))))
 SCRIPT = sys.modules["__main__"]
 NAME = os.path.basename(os.path.dirname(os.path.abspath(SCRIPT.__file__)))
-LOOKS = itertools.count()
+LOOKS, POOLS = itertools.count(), []
 
 
 def say(text):
@@ -130,6 +131,13 @@ def is_chosen(name, given):
     return not given.k or any(text in name for text in given.k)
 
 
+def begin(name, function, items, given):
+    """Begins to call a function with each item whose check NAME:ITEM is chosen, several at a time. Returns a future for each."""
+    pool = ThreadPoolExecutor(len(os.sched_getaffinity(0)))
+    POOLS.append(pool)
+    return {item: pool.submit(function, item) for item in items if is_chosen(f"{name}:{item}", given)}
+
+
 def run(said=None, given=None):
     """Runs the checks, and ends the script. If all were chosen, none has failed and some have passed, the last line begins with
     the text that `said` returns, if it returns one. `given` is the parsed command line; the default is for scripts that have no
@@ -141,6 +149,8 @@ def run(said=None, given=None):
     report = sys.stderr if given.v else io.StringIO()
     runner = unittest.TextTestRunner(report, descriptions=False, verbosity=2 * given.v, failfast=given.f)
     ended = runner.run(unittest.TestSuite(chosen))
+    for pool in POOLS:
+        pool.shutdown(wait=False, cancel_futures=True)
     failed = [str(check) for check, _ in ended.failures + ended.errors]
     if failed and not given.v:
         sys.stderr.write(report.getvalue())
