@@ -52,6 +52,5 @@ $(addprefix check-,$(OVER_PROGRAMS)): proved
 $(addprefix check-,$(OVER_LIBRARY)): library
 # Scripts run without the variables of this `make`. A `make` that they run would otherwise print the folders that it enters.
 AS_A_USER := env -u MAKEFLAGS -u MFLAGS -u MAKELEVEL
-# check-NAME runs the script of NAME, and check-pasted-first runs that of `pasted` with --first.
-$(CHECKS): check-%:
-	$(AS_A_USER) $(or $(wildcard tests/$(*:-first=)/run),tests/$(*:-first=)) $(if $(filter %-first,$*),--first)
+# check-NAME runs tests/NAME/run, and check-pasted-first runs tests/pasted/run with --first.
+$(CHECKS): check-%: ; $(AS_A_USER) tests/$(*:-first=)/run $(if $(filter %-first,$*),--first)
