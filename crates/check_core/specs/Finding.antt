@@ -57,39 +57,12 @@ abbrev pub more_lines : Event → Known → ℕ
 more_lines (Event.Admin AdminCommand.Pool) w = length w.owners
 more_lines (Event.Tenant t Command.Report) w =
     if nat_lt t (length w.states) then 1 + w.order + option_map_or (λ s. length s.has.caches) (slice_get w.states t) 0 else 0
-more_lines (Event.Admin (AdminCommand.Grant t)) w = 0
-more_lines (Event.Admin (AdminCommand.TakeBack t u)) w = 0
-more_lines (Event.Admin (AdminCommand.Reset t)) w = 0
-more_lines (Event.Admin (AdminCommand.Move t u)) w = 0
-more_lines (Event.Tenant t (Command.Alloc k)) w = 0
-more_lines (Event.Tenant t (Command.Free f)) w = 0
-more_lines (Event.Tenant t (Command.Read place len)) w = 0
-more_lines (Event.Tenant t (Command.Write place bytes)) w = 0
-more_lines (Event.Tenant t (Command.Cache size align pattern)) w = 0
-more_lines (Event.Tenant t (Command.Destroy number)) w = 0
-more_lines (Event.Tenant t (Command.Take number)) w = 0
-more_lines (Event.Tenant t (Command.Give number place)) w = 0
-more_lines (Event.Tenant t Command.Reap) w = 0
+more_lines event w = 0
 
 -- the refusal, with its addressee, if the body is a refusal
 abbrev pub refusal_told : Addressee → Body → Option (Addressee × Refusal)
 refusal_told who (Body.Refused refusal) = Some (who, refusal)
-refusal_told who (Body.Granted tenant slot superblock) = None
-refusal_told who (Body.TakenBack superblock) = None
-refusal_told who (Body.WasReset tenant superblocks) = None
-refusal_told who (Body.Moved tenant slot superblock) = None
-refusal_told who (Body.Owners owners) = None
-refusal_told who (Body.Frame frame) = None
-refusal_told who (Body.Freed order) = None
-refusal_told who (Body.Bytes bytes) = None
-refusal_told who (Body.Written count) = None
-refusal_told who (Body.Cache cache chunk order objects colours) = None
-refusal_told who (Body.Destroyed frames) = None
-refusal_told who (Body.Object place) = None
-refusal_told who Body.Given = None
-refusal_told who (Body.Reaped frames) = None
-refusal_told who (Body.Report report) = None
-refusal_told who (Body.Fault fault) = None
+refusal_told who body = None
 
 -- the refusal, with its addressee, if a reply was read and is a refusal
 abbrev pub refusal_read : Option Reply → Option (Addressee × Refusal)
@@ -145,18 +118,4 @@ finding_of w trace replies = finding 0 0 (readings_of trace) replies w
 abbrev pub page_in_way : Known → Event → Body → Option Block
 page_in_way w (Event.Tenant t (Command.Alloc k)) (Body.Frame f) = if nat_le k MAX_ORDER
     then option_map_or (λ s. find (overlaps (block f k)) s.has.pages) (slice_get w.states t) None else None
-page_in_way w (Event.Tenant t (Command.Alloc k)) body = None
-page_in_way w (Event.Tenant t (Command.Free f)) body = None
-page_in_way w (Event.Tenant t (Command.Read place len)) body = None
-page_in_way w (Event.Tenant t (Command.Write place bytes)) body = None
-page_in_way w (Event.Tenant t (Command.Cache size align pattern)) body = None
-page_in_way w (Event.Tenant t (Command.Destroy number)) body = None
-page_in_way w (Event.Tenant t (Command.Take number)) body = None
-page_in_way w (Event.Tenant t (Command.Give number place)) body = None
-page_in_way w (Event.Tenant t Command.Reap) body = None
-page_in_way w (Event.Tenant t Command.Report) body = None
-page_in_way w (Event.Admin (AdminCommand.Grant t)) body = None
-page_in_way w (Event.Admin (AdminCommand.TakeBack t u)) body = None
-page_in_way w (Event.Admin (AdminCommand.Reset t)) body = None
-page_in_way w (Event.Admin (AdminCommand.Move t u)) body = None
-page_in_way w (Event.Admin AdminCommand.Pool) body = None
+page_in_way w event body = None

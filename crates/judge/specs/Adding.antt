@@ -13,19 +13,7 @@ is_addition (Body.Granted tenant slot superblock) = true
 is_addition (Body.Frame frame) = true
 is_addition (Body.Cache number chunk order objects colours) = true
 is_addition (Body.Object place) = true
-is_addition (Body.TakenBack superblock) = false
-is_addition (Body.WasReset tenant superblocks) = false
-is_addition (Body.Moved tenant slot superblock) = false
-is_addition (Body.Owners owners) = false
-is_addition (Body.Freed order) = false
-is_addition (Body.Bytes bytes) = false
-is_addition (Body.Written count) = false
-is_addition (Body.Destroyed frames) = false
-is_addition Body.Given = false
-is_addition (Body.Reaped frames) = false
-is_addition (Body.Report report) = false
-is_addition (Body.Refused refusal) = false
-is_addition (Body.Fault fault) = false
+is_addition body = false
 
 -- the reply adds something to the state, and what is known of the machine x allows it
 pub record IsAllowedAddition (event : Event) (reply : Reply) (x : SeenMachine) : Type 0 where

@@ -20,43 +20,19 @@ use Rattle.promise_core.specs.Promises.{allowed, all_allowed}
 -- the event is a command of tenant t that makes a cache, and the cache's pattern has the byte
 abbrev pub gives_pattern : ℕ → ℕ → Event → Bool
 gives_pattern t byte (Event.Tenant named (Command.Cache size align pattern)) = named == t && list_any (λ b. b == byte) pattern.items
-gives_pattern t byte (Event.Tenant named (Command.Alloc k)) = false
-gives_pattern t byte (Event.Tenant named (Command.Free f)) = false
-gives_pattern t byte (Event.Tenant named (Command.Read place len)) = false
-gives_pattern t byte (Event.Tenant named (Command.Write place new)) = false
-gives_pattern t byte (Event.Tenant named (Command.Destroy number)) = false
-gives_pattern t byte (Event.Tenant named (Command.Take number)) = false
-gives_pattern t byte (Event.Tenant named (Command.Give number place)) = false
-gives_pattern t byte (Event.Tenant named Command.Reap) = false
-gives_pattern t byte (Event.Tenant named Command.Report) = false
-gives_pattern t byte (Event.Admin command) = false
+gives_pattern t byte event = false
 
 -- the tenant writes the byte at the place, and the write is not refused
 abbrev pub writes_byte : ℕ → ℕ → ℕ → Event → Body → Bool
 writes_byte t place byte (Event.Tenant named (Command.Write begin new)) (Body.Written n) =
     named == t && ((nat_le begin place && nat_lt place (begin + length new.items))
     && slice_index new.items (place - begin) == byte)
-writes_byte t place byte (Event.Tenant named (Command.Alloc k)) body = false
-writes_byte t place byte (Event.Tenant named (Command.Free f)) body = false
-writes_byte t place byte (Event.Tenant named (Command.Read begin len)) body = false
-writes_byte t place byte (Event.Tenant named (Command.Cache size align pattern)) body = false
-writes_byte t place byte (Event.Tenant named (Command.Destroy number)) body = false
-writes_byte t place byte (Event.Tenant named (Command.Take number)) body = false
-writes_byte t place byte (Event.Tenant named (Command.Give number object)) body = false
-writes_byte t place byte (Event.Tenant named Command.Reap) body = false
-writes_byte t place byte (Event.Tenant named Command.Report) body = false
-writes_byte t place byte (Event.Tenant named (Command.Write begin new)) body = false
-writes_byte t place byte (Event.Admin command) body = false
+writes_byte t place byte event body = false
 
 -- the event grants tenant t the slot that contains the place; slots have 2 ^ order frames
 abbrev pub grants_slot : ℕ → ℕ → ℕ → Event → Body → Bool
 grants_slot order t place (Event.Admin (AdminCommand.Grant named)) (Body.Granted told u superblock) = named == t && slot_of order place == u
-grants_slot order t place (Event.Tenant named command) body = false
-grants_slot order t place (Event.Admin (AdminCommand.Grant named)) body = false
-grants_slot order t place (Event.Admin (AdminCommand.TakeBack named u)) body = false
-grants_slot order t place (Event.Admin (AdminCommand.Reset named)) body = false
-grants_slot order t place (Event.Admin (AdminCommand.Move named u)) body = false
-grants_slot order t place (Event.Admin AdminCommand.Pool) body = false
+grants_slot order t place event body = false
 
 -- the byte is in a pattern that the tenant gave, in these exchanges or before
 abbrev pub was_given : ℕ → ℕ → Bool → List Exchange → Bool
@@ -131,10 +107,7 @@ uses_memory (Command.Read place len) = true
 uses_memory (Command.Write place bytes) = true
 uses_memory (Command.Take number) = true
 uses_memory (Command.Give number place) = true
-uses_memory (Command.Cache size align pattern) = false
-uses_memory (Command.Destroy number) = false
-uses_memory Command.Reap = false
-uses_memory Command.Report = false
+uses_memory command = false
 
 -- after any allowed replies, each command by which a tenant uses its memory has an allowed reply
 abbrev pub UseAnswerable : Type 0

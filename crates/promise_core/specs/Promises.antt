@@ -30,12 +30,7 @@ abbrev pub is_for : Event → Bool → Addressee → Bool
 is_for (Event.Tenant t command) true (Addressee.Tenant named) = named == t
 is_for (Event.Tenant t command) false Addressee.Nobody = true
 is_for (Event.Admin command) exists Addressee.Admin = true
-is_for (Event.Tenant t command) true Addressee.Admin = false
-is_for (Event.Tenant t command) true Addressee.Nobody = false
-is_for (Event.Tenant t command) false Addressee.Admin = false
-is_for (Event.Tenant t command) false (Addressee.Tenant named) = false
-is_for (Event.Admin command) exists Addressee.Nobody = false
-is_for (Event.Admin command) exists (Addressee.Tenant named) = false
+is_for event exists addressee = false
 
 -- the reply has the right addressee, and is a refusal or an answer to this event
 abbrev pub form : Event → Reply → Known → State → Bool
@@ -74,191 +69,41 @@ due (Event.Admin AdminCommand.Pool) w s = None
 abbrev pub is_one : Refusal → Refusal → Bool
 is_one a b = number_of_refusal a == number_of_refusal b
 
+-- the refusal that the body is, if it is one
+abbrev pub refusal_in : Body → Option Refusal
+refusal_in (Body.Refused refusal) = Some refusal
+refusal_in body = None
+
 -- if a refusal is due, the reply is that refusal; if none is due, it is an answer, `NoFrames` or `SlotBusy`
 abbrev pub refusals : Event → Body → Known → State → Bool
-refusals event (Body.Refused refusal) w s =
-    option_map_or (is_one refusal) (due event w s) (is_one refusal Refusal.NoFrames || is_one refusal Refusal.SlotBusy)
-refusals event (Body.Granted tenant slot superblock) w s = is_none (due event w s)
-refusals event (Body.TakenBack superblock) w s = is_none (due event w s)
-refusals event (Body.WasReset tenant superblocks) w s = is_none (due event w s)
-refusals event (Body.Moved tenant slot superblock) w s = is_none (due event w s)
-refusals event (Body.Owners told) w s = is_none (due event w s)
-refusals event (Body.Frame f) w s = is_none (due event w s)
-refusals event (Body.Freed k) w s = is_none (due event w s)
-refusals event (Body.Bytes told) w s = is_none (due event w s)
-refusals event (Body.Written n) w s = is_none (due event w s)
-refusals event (Body.Cache number chunk q n colours) w s = is_none (due event w s)
-refusals event (Body.Destroyed frames) w s = is_none (due event w s)
-refusals event (Body.Object place) w s = is_none (due event w s)
-refusals event Body.Given w s = is_none (due event w s)
-refusals event (Body.Reaped frames) w s = is_none (due event w s)
-refusals event (Body.Report r) w s = is_none (due event w s)
-refusals event (Body.Fault fault) w s = is_none (due event w s)
+refusals event body w s = option_map_or
+    (λ refusal. option_map_or (is_one refusal) (due event w s) (is_one refusal Refusal.NoFrames || is_one refusal Refusal.SlotBusy))
+    (refusal_in body) (is_none (due event w s))
 
 -- every slab of the cache that has live objects is full, and no block is vacant for one more slab
 abbrev pub is_used_up : ℕ → Holdings → KnownCache → Bool
 is_used_up order h c = list_all (is_slab_full c) c.live && not (has_vacant_block order h c.order)
 
--- Each promise below is about some commands. The other commands are listed too, so that a new command has to be added to each
--- promise. Only `state_after` says which body is an answer to which command, and only `form` tests this.
+-- No free block is large enough for the command: for an `alloc` no block of its order is vacant, and for a `take` its cache is used
+-- up. No other command needs frames.
+abbrev pub is_short : Event → Known → State → Bool
+is_short (Event.Tenant t (Command.Alloc k)) w s = not (has_vacant_block w.order s.has k)
+is_short (Event.Tenant t (Command.Take number)) w s = option_map_or (is_used_up w.order s.has) (known_cache s.has number) false
+is_short event w s = false
 
--- `NoFrames` may be the reply to an `alloc` only if no block of its order is vacant, to a `take` only if its cache is used up,
--- and to no other command
+-- `NoFrames` is the reply only if the command is short of frames
 abbrev pub room : Event → Body → Known → State → Bool
-room (Event.Tenant t (Command.Alloc k)) (Body.Refused Refusal.NoFrames) w s = not (has_vacant_block w.order s.has k)
-room (Event.Tenant t (Command.Take number)) (Body.Refused Refusal.NoFrames) w s =
-    option_map_or (is_used_up w.order s.has) (known_cache s.has number) false
-room (Event.Tenant t (Command.Free f)) (Body.Refused Refusal.NoFrames) w s = false
-room (Event.Tenant t (Command.Read place len)) (Body.Refused Refusal.NoFrames) w s = false
-room (Event.Tenant t (Command.Write place new)) (Body.Refused Refusal.NoFrames) w s = false
-room (Event.Tenant t (Command.Cache size align pattern)) (Body.Refused Refusal.NoFrames) w s = false
-room (Event.Tenant t (Command.Destroy number)) (Body.Refused Refusal.NoFrames) w s = false
-room (Event.Tenant t (Command.Give number place)) (Body.Refused Refusal.NoFrames) w s = false
-room (Event.Tenant t Command.Reap) (Body.Refused Refusal.NoFrames) w s = false
-room (Event.Tenant t Command.Report) (Body.Refused Refusal.NoFrames) w s = false
-room (Event.Admin (AdminCommand.Grant t)) (Body.Refused Refusal.NoFrames) w s = false
-room (Event.Admin (AdminCommand.TakeBack t u)) (Body.Refused Refusal.NoFrames) w s = false
-room (Event.Admin (AdminCommand.Reset t)) (Body.Refused Refusal.NoFrames) w s = false
-room (Event.Admin (AdminCommand.Move t u)) (Body.Refused Refusal.NoFrames) w s = false
-room (Event.Admin AdminCommand.Pool) (Body.Refused Refusal.NoFrames) w s = false
-room event (Body.Refused Refusal.BadOrder) w s = true
-room event (Body.Refused Refusal.NotABlock) w s = true
-room event (Body.Refused Refusal.OutOfReach) w s = true
-room event (Body.Refused Refusal.BadLength) w s = true
-room event (Body.Refused Refusal.BadSize) w s = true
-room event (Body.Refused Refusal.BadAlign) w s = true
-room event (Body.Refused Refusal.NoCacheSlot) w s = true
-room event (Body.Refused Refusal.NoCache) w s = true
-room event (Body.Refused Refusal.CacheInUse) w s = true
-room event (Body.Refused Refusal.NotAnObject) w s = true
-room event (Body.Refused Refusal.NoTenant) w s = true
-room event (Body.Refused Refusal.PoolEmpty) w s = true
-room event (Body.Refused Refusal.NoSlot) w s = true
-room event (Body.Refused Refusal.SlotBusy) w s = true
-room event (Body.Granted tenant slot superblock) w s = true
-room event (Body.TakenBack superblock) w s = true
-room event (Body.WasReset tenant superblocks) w s = true
-room event (Body.Moved tenant slot superblock) w s = true
-room event (Body.Owners told) w s = true
-room event (Body.Frame f) w s = true
-room event (Body.Freed k) w s = true
-room event (Body.Bytes told) w s = true
-room event (Body.Written n) w s = true
-room event (Body.Cache number chunk q n colours) w s = true
-room event (Body.Destroyed frames) w s = true
-room event (Body.Object place) w s = true
-room event Body.Given w s = true
-room event (Body.Reaped frames) w s = true
-room event (Body.Report r) w s = true
-room event (Body.Fault fault) w s = true
+room event body w s = option_map_or (λ refusal. not (is_one refusal Refusal.NoFrames) || is_short event w s) (refusal_in body) true
 
--- `SlotBusy` may be the reply only to a take-back, and only if a frame of the slot is taken or some cache may have a slab without
--- live objects
-abbrev pub busy : Event → Body → Known → State → Bool
-busy (Event.Admin (AdminCommand.TakeBack t u)) (Body.Refused Refusal.SlotBusy) w s =
+-- a take-back finds a taken frame in the slot, or some cache may have a slab without live objects
+abbrev pub may_be_busy : Event → Known → State → Bool
+may_be_busy (Event.Admin (AdminCommand.TakeBack t u)) w s =
     is_slot_busy w.order s.has u || list_any (λ c. s.may_have_empty c.number) s.has.caches
-busy (Event.Tenant t (Command.Alloc k)) (Body.Refused Refusal.SlotBusy) w s = false
-busy (Event.Tenant t (Command.Free f)) (Body.Refused Refusal.SlotBusy) w s = false
-busy (Event.Tenant t (Command.Read place len)) (Body.Refused Refusal.SlotBusy) w s = false
-busy (Event.Tenant t (Command.Write place new)) (Body.Refused Refusal.SlotBusy) w s = false
-busy (Event.Tenant t (Command.Cache size align pattern)) (Body.Refused Refusal.SlotBusy) w s = false
-busy (Event.Tenant t (Command.Destroy number)) (Body.Refused Refusal.SlotBusy) w s = false
-busy (Event.Tenant t (Command.Take number)) (Body.Refused Refusal.SlotBusy) w s = false
-busy (Event.Tenant t (Command.Give number place)) (Body.Refused Refusal.SlotBusy) w s = false
-busy (Event.Tenant t Command.Reap) (Body.Refused Refusal.SlotBusy) w s = false
-busy (Event.Tenant t Command.Report) (Body.Refused Refusal.SlotBusy) w s = false
-busy (Event.Admin (AdminCommand.Grant t)) (Body.Refused Refusal.SlotBusy) w s = false
-busy (Event.Admin (AdminCommand.Reset t)) (Body.Refused Refusal.SlotBusy) w s = false
-busy (Event.Admin (AdminCommand.Move t u)) (Body.Refused Refusal.SlotBusy) w s = false
-busy (Event.Admin AdminCommand.Pool) (Body.Refused Refusal.SlotBusy) w s = false
-busy event (Body.Refused Refusal.NoFrames) w s = true
-busy event (Body.Refused Refusal.BadOrder) w s = true
-busy event (Body.Refused Refusal.NotABlock) w s = true
-busy event (Body.Refused Refusal.OutOfReach) w s = true
-busy event (Body.Refused Refusal.BadLength) w s = true
-busy event (Body.Refused Refusal.BadSize) w s = true
-busy event (Body.Refused Refusal.BadAlign) w s = true
-busy event (Body.Refused Refusal.NoCacheSlot) w s = true
-busy event (Body.Refused Refusal.NoCache) w s = true
-busy event (Body.Refused Refusal.CacheInUse) w s = true
-busy event (Body.Refused Refusal.NotAnObject) w s = true
-busy event (Body.Refused Refusal.NoTenant) w s = true
-busy event (Body.Refused Refusal.PoolEmpty) w s = true
-busy event (Body.Refused Refusal.NoSlot) w s = true
-busy event (Body.Granted tenant slot superblock) w s = true
-busy event (Body.TakenBack superblock) w s = true
-busy event (Body.WasReset tenant superblocks) w s = true
-busy event (Body.Moved tenant slot superblock) w s = true
-busy event (Body.Owners told) w s = true
-busy event (Body.Frame f) w s = true
-busy event (Body.Freed k) w s = true
-busy event (Body.Bytes told) w s = true
-busy event (Body.Written n) w s = true
-busy event (Body.Cache number chunk q n colours) w s = true
-busy event (Body.Destroyed frames) w s = true
-busy event (Body.Object place) w s = true
-busy event Body.Given w s = true
-busy event (Body.Reaped frames) w s = true
-busy event (Body.Report r) w s = true
-busy event (Body.Fault fault) w s = true
+may_be_busy event w s = false
 
-abbrev pub blocks : Event → Body → Known → State → Bool
-blocks (Event.Tenant t (Command.Alloc k)) (Body.Frame f) w s = can_stand w.order s.has (block f k)
-blocks (Event.Tenant t (Command.Alloc k)) body w s = true
-blocks (Event.Tenant t (Command.Free f)) body w s = true
-blocks (Event.Tenant t (Command.Read place len)) body w s = true
-blocks (Event.Tenant t (Command.Write place new)) body w s = true
-blocks (Event.Tenant t (Command.Cache size align pattern)) body w s = true
-blocks (Event.Tenant t (Command.Destroy number)) body w s = true
-blocks (Event.Tenant t (Command.Take number)) body w s = true
-blocks (Event.Tenant t (Command.Give number place)) body w s = true
-blocks (Event.Tenant t Command.Reap) body w s = true
-blocks (Event.Tenant t Command.Report) body w s = true
-blocks (Event.Admin (AdminCommand.Grant t)) body w s = true
-blocks (Event.Admin (AdminCommand.TakeBack t u)) body w s = true
-blocks (Event.Admin (AdminCommand.Reset t)) body w s = true
-blocks (Event.Admin (AdminCommand.Move t u)) body w s = true
-blocks (Event.Admin AdminCommand.Pool) body w s = true
-
-abbrev pub objects : Event → Body → Known → State → Bool
-objects (Event.Tenant t (Command.Take number)) (Body.Object place) w s =
-    option_map_or (λ c. can_be_taken w.order s.has c place) (known_cache s.has number) false
-objects (Event.Tenant t (Command.Alloc k)) body w s = true
-objects (Event.Tenant t (Command.Free f)) body w s = true
-objects (Event.Tenant t (Command.Read place len)) body w s = true
-objects (Event.Tenant t (Command.Write place new)) body w s = true
-objects (Event.Tenant t (Command.Cache size align pattern)) body w s = true
-objects (Event.Tenant t (Command.Destroy number)) body w s = true
-objects (Event.Tenant t (Command.Take number)) body w s = true
-objects (Event.Tenant t (Command.Give number place)) body w s = true
-objects (Event.Tenant t Command.Reap) body w s = true
-objects (Event.Tenant t Command.Report) body w s = true
-objects (Event.Admin (AdminCommand.Grant t)) body w s = true
-objects (Event.Admin (AdminCommand.TakeBack t u)) body w s = true
-objects (Event.Admin (AdminCommand.Reset t)) body w s = true
-objects (Event.Admin (AdminCommand.Move t u)) body w s = true
-objects (Event.Admin AdminCommand.Pool) body w s = true
-
--- a new cache has an unused number, which is below the limit, and at each colour a slab's objects fit into the slab
-abbrev pub new_layout : Event → Body → Known → State → Bool
-new_layout (Event.Tenant t (Command.Cache size align pattern)) (Body.Cache number chunk q n colours) w s =
-    (nat_lt number w.limit && is_none (known_cache s.has number)) && ((nat_le size chunk && (chunk % align == 0 && nat_le q w.order))
-    && ((nat_le 1 n && nat_le 1 colours) && nat_le (align * (colours - 1) + n * chunk) (FRAME_BYTES * 2 ^ q)))
-new_layout (Event.Tenant t (Command.Alloc k)) body w s = true
-new_layout (Event.Tenant t (Command.Free f)) body w s = true
-new_layout (Event.Tenant t (Command.Read place len)) body w s = true
-new_layout (Event.Tenant t (Command.Write place new)) body w s = true
-new_layout (Event.Tenant t (Command.Cache size align pattern)) body w s = true
-new_layout (Event.Tenant t (Command.Destroy number)) body w s = true
-new_layout (Event.Tenant t (Command.Take number)) body w s = true
-new_layout (Event.Tenant t (Command.Give number place)) body w s = true
-new_layout (Event.Tenant t Command.Reap) body w s = true
-new_layout (Event.Tenant t Command.Report) body w s = true
-new_layout (Event.Admin (AdminCommand.Grant t)) body w s = true
-new_layout (Event.Admin (AdminCommand.TakeBack t u)) body w s = true
-new_layout (Event.Admin (AdminCommand.Reset t)) body w s = true
-new_layout (Event.Admin (AdminCommand.Move t u)) body w s = true
-new_layout (Event.Admin AdminCommand.Pool) body w s = true
+-- `SlotBusy` is the reply only to such a take-back
+abbrev pub busy : Event → Body → Known → State → Bool
+busy event body w s = option_map_or (λ refusal. not (is_one refusal Refusal.SlotBusy) || may_be_busy event w s) (refusal_in body) true
 
 -- The empty slabs of these caches may have this number of frames: it is 0, or a multiple of the slab size of one of these caches
 -- that may have an empty slab. It is at most the number of frames that are not taken.
@@ -266,78 +111,8 @@ abbrev pub can_come_back : ℕ → List KnownCache → ℕ → State → Bool
 can_come_back order caches frames s = frames == 0 || (nat_le frames (length (vacant_blocks order s.has 0))
     && list_any (λ c. s.may_have_empty c.number && frames % 2 ^ c.order == 0) caches)
 
-abbrev pub gives : Event → Body → Known → State → Bool
-gives (Event.Tenant t (Command.Free f)) (Body.Freed k) w s = option_eq (λ i j. i == j) (order_in s.has.pages f) (Some k)
-gives (Event.Tenant t (Command.Destroy number)) (Body.Destroyed frames) w s =
-    can_come_back w.order (filter (λ c. c.number == number) s.has.caches) frames s
-gives (Event.Tenant t Command.Reap) (Body.Reaped frames) w s = can_come_back w.order s.has.caches frames s
-gives (Event.Tenant t (Command.Alloc k)) body w s = true
-gives (Event.Tenant t (Command.Free f)) body w s = true
-gives (Event.Tenant t (Command.Read place len)) body w s = true
-gives (Event.Tenant t (Command.Write place new)) body w s = true
-gives (Event.Tenant t (Command.Cache size align pattern)) body w s = true
-gives (Event.Tenant t (Command.Destroy number)) body w s = true
-gives (Event.Tenant t (Command.Take number)) body w s = true
-gives (Event.Tenant t (Command.Give number place)) body w s = true
-gives (Event.Tenant t Command.Reap) body w s = true
-gives (Event.Tenant t Command.Report) body w s = true
-gives (Event.Admin (AdminCommand.Grant t)) body w s = true
-gives (Event.Admin (AdminCommand.TakeBack t u)) body w s = true
-gives (Event.Admin (AdminCommand.Reset t)) body w s = true
-gives (Event.Admin (AdminCommand.Move t u)) body w s = true
-gives (Event.Admin AdminCommand.Pool) body w s = true
-
 abbrev pub has_owner : (Option Owner → Bool) → ℕ → Known → Bool
 has_owner test superblock w = option_map_or test (slice_get w.owners superblock) false
-
--- A superblock that the tenant gets had no owner, and one that it loses was its own. A granted slot was not held and ends at most
--- at byte 2 ^ 32. A reset reports the number of the tenant's superblocks, and the reported table of owners is the known one.
-abbrev pub owners : Event → Body → Known → State → Bool
-owners (Event.Admin (AdminCommand.Grant t)) (Body.Granted named u superblock) w s = (named == t && has_owner is_none superblock w)
-    && (not (has_slot s.has u) && nat_le ((u + 1) * 2 ^ w.order * FRAME_BYTES) (2 ^ 32))
-owners (Event.Admin (AdminCommand.TakeBack t u)) (Body.TakenBack superblock) w s = has_owner (is_owner t u) superblock w
-owners (Event.Admin (AdminCommand.Reset t)) (Body.WasReset named superblocks) w s = named == t && superblocks == count_by (is_of t) w.owners
-owners (Event.Admin (AdminCommand.Move t u)) (Body.Moved named slot superblock) w s =
-    (named == t && slot == u) && has_owner is_none superblock w
-owners (Event.Admin AdminCommand.Pool) (Body.Owners told) w s = length told.items == length w.owners
-    && list_all (λ p. option_eq (λ x y. x.tenant == y.tenant && x.slot == y.slot) p.0 p.1) (zip told.items w.owners)
-owners (Event.Tenant t (Command.Alloc k)) body w s = true
-owners (Event.Tenant t (Command.Free f)) body w s = true
-owners (Event.Tenant t (Command.Read place len)) body w s = true
-owners (Event.Tenant t (Command.Write place new)) body w s = true
-owners (Event.Tenant t (Command.Cache size align pattern)) body w s = true
-owners (Event.Tenant t (Command.Destroy number)) body w s = true
-owners (Event.Tenant t (Command.Take number)) body w s = true
-owners (Event.Tenant t (Command.Give number place)) body w s = true
-owners (Event.Tenant t Command.Reap) body w s = true
-owners (Event.Tenant t Command.Report) body w s = true
-owners (Event.Admin (AdminCommand.Grant t)) body w s = true
-owners (Event.Admin (AdminCommand.TakeBack t u)) body w s = true
-owners (Event.Admin (AdminCommand.Reset t)) body w s = true
-owners (Event.Admin (AdminCommand.Move t u)) body w s = true
-owners (Event.Admin AdminCommand.Pool) body w s = true
-
--- Each byte that a read returns may be the byte at its place. A read returns as many bytes as it requests, and a write reports as
--- many bytes as it has.
-abbrev pub bytes : Event → Body → Known → State → Bool
-bytes (Event.Tenant t (Command.Read place len)) (Body.Bytes told) w s = length told.items == len
-    && option_map_or (λ holder. may_all_be s.has s.cells holder place told.items) (holder_of s.has place len) false
-bytes (Event.Tenant t (Command.Write place new)) (Body.Written n) w s = length new.items == n
-bytes (Event.Tenant t (Command.Alloc k)) body w s = true
-bytes (Event.Tenant t (Command.Free f)) body w s = true
-bytes (Event.Tenant t (Command.Read place len)) body w s = true
-bytes (Event.Tenant t (Command.Write place new)) body w s = true
-bytes (Event.Tenant t (Command.Cache size align pattern)) body w s = true
-bytes (Event.Tenant t (Command.Destroy number)) body w s = true
-bytes (Event.Tenant t (Command.Take number)) body w s = true
-bytes (Event.Tenant t (Command.Give number place)) body w s = true
-bytes (Event.Tenant t Command.Reap) body w s = true
-bytes (Event.Tenant t Command.Report) body w s = true
-bytes (Event.Admin (AdminCommand.Grant t)) body w s = true
-bytes (Event.Admin (AdminCommand.TakeBack t u)) body w s = true
-bytes (Event.Admin (AdminCommand.Reset t)) body w s = true
-bytes (Event.Admin (AdminCommand.Move t u)) body w s = true
-bytes (Event.Admin AdminCommand.Pool) body w s = true
 
 -- the total number of frames of some blocks; the list says how many of them have each order, from order 0 on
 abbrev pub frames_of_counts : List ℕ → ℕ
@@ -359,8 +134,8 @@ known_count h rows k = length (filter (λ b. b.order == k) h.pages)
 
 -- A report has a row for each order and for each cache, and its figures agree with the state. For each order, the free blocks of
 -- that order and above fit into the vacant blocks of that order.
-abbrev pub report : Event → Body → Known → State → Bool
-report (Event.Tenant t Command.Report) (Body.Report r) w s =
+abbrev pub agrees : Report → Known → State → Bool
+agrees r w s =
     let orders = range_with_len 0 (w.order + 1) in
     let free = map (λ row. row.free) r.orders.items in
     let taken = map (λ row. row.taken) r.orders.items in
@@ -371,52 +146,119 @@ report (Event.Tenant t Command.Report) (Body.Report r) w s =
     ∷ list_all (is_row s.may_have_empty) (zip s.has.caches r.caches.items)
     ∷ list_all (λ k. slice_index taken k == known_count s.has r.caches.items k) orders
     ∷ list_all (λ k. nat_le (frames_of_counts (drop k free)) (length (vacant_blocks w.order s.has k))) orders ∷ [])
-report (Event.Tenant t (Command.Alloc k)) body w s = true
-report (Event.Tenant t (Command.Free f)) body w s = true
-report (Event.Tenant t (Command.Read place len)) body w s = true
-report (Event.Tenant t (Command.Write place new)) body w s = true
-report (Event.Tenant t (Command.Cache size align pattern)) body w s = true
-report (Event.Tenant t (Command.Destroy number)) body w s = true
-report (Event.Tenant t (Command.Take number)) body w s = true
-report (Event.Tenant t (Command.Give number place)) body w s = true
-report (Event.Tenant t Command.Reap) body w s = true
-report (Event.Tenant t Command.Report) body w s = true
-report (Event.Admin (AdminCommand.Grant t)) body w s = true
-report (Event.Admin (AdminCommand.TakeBack t u)) body w s = true
-report (Event.Admin (AdminCommand.Reset t)) body w s = true
-report (Event.Admin (AdminCommand.Move t u)) body w s = true
-report (Event.Admin AdminCommand.Pool) body w s = true
 
 -- the number of frames that a report counts in empty slabs of the caches whose number passes the test
 abbrev pub empty_frames : (ℕ → Bool) → Holdings → Report → ℕ
 empty_frames test h r = sum_by (λ p. if test p.0.number then p.1.empty * 2 ^ p.0.order else 0) (zip h.caches r.caches.items)
 
+-- What the promises from Blocks on say of a reply: a field is true if the reply keeps its promise.
+pub record Tests : Type 0 where
+  pub in_blocks : Bool
+  pub in_objects : Bool
+  pub in_layout : Bool
+  pub in_gives : Bool
+  pub in_owners : Bool
+  pub in_bytes : Bool
+  pub in_report : Bool
+  pub in_still : Bool
+
+abbrev pub passed : Tests
+passed = record { in_blocks = true; in_objects = true; in_layout = true; in_gives = true; in_owners = true; in_bytes = true; in_report = true; in_still = true }
+
+-- Each command has a row for its answer and a row for all other bodies, so that a new command has to be added here. Only
+-- `state_after` says which body is an answer to which command, and only `form` tests this.
+abbrev pub tests : Event → Body → Known → State → Tests
+tests (Event.Tenant t (Command.Alloc k)) (Body.Frame f) w s = record passed { in_blocks = can_stand w.order s.has (block f k) }
+tests (Event.Tenant t (Command.Free f)) (Body.Freed k) w s = record passed { in_gives = option_eq (λ i j. i == j) (order_in s.has.pages f) (Some k) }
+-- Each byte that a read returns may be the byte at its place. A read returns as many bytes as it requests, and a write reports as
+-- many bytes as it has.
+tests (Event.Tenant t (Command.Read place len)) (Body.Bytes told) w s = record passed {
+  in_bytes = length told.items == len
+      && option_map_or (λ holder. may_all_be s.has s.cells holder place told.items) (holder_of s.has place len) false;
+}
+tests (Event.Tenant t (Command.Write place new)) (Body.Written n) w s = record passed { in_bytes = length new.items == n }
+-- a new cache has an unused number, which is below the limit, and at each colour a slab's objects fit into the slab
+tests (Event.Tenant t (Command.Cache size align pattern)) (Body.Cache number chunk q n colours) w s = record passed {
+  in_layout =
+      (nat_lt number w.limit && is_none (known_cache s.has number)) && ((nat_le size chunk && (chunk % align == 0 && nat_le q w.order))
+      && ((nat_le 1 n && nat_le 1 colours) && nat_le (align * (colours - 1) + n * chunk) (FRAME_BYTES * 2 ^ q)));
+}
 -- While the last report is valid, a reap frees as many frames as the report counts in empty slabs, and a destroy as many as it
--- counts in empty slabs of the cache. A new report counts the same free blocks and empty slabs as the last report. (Its other
--- figures follow from the state.)
+-- counts in empty slabs of the cache.
+tests (Event.Tenant t (Command.Destroy number)) (Body.Destroyed frames) w s = record passed {
+  in_gives = can_come_back w.order (filter (λ c. c.number == number) s.has.caches) frames s;
+  in_still = option_map_or (λ r. frames == empty_frames (λ n. n == number) s.has r) s.told true;
+}
+tests (Event.Tenant t (Command.Take number)) (Body.Object place) w s = record passed {
+  in_objects =
+      option_map_or (λ c. can_be_taken w.order s.has c place) (known_cache s.has number) false;
+}
+tests (Event.Tenant t Command.Reap) (Body.Reaped frames) w s = record passed {
+  in_gives = can_come_back w.order s.has.caches frames s;
+  in_still = option_map_or (λ r. frames == empty_frames (λ n. true) s.has r) s.told true;
+}
+-- A new report counts the same free blocks and empty slabs as the last report. (Its other figures follow from the state.)
+tests (Event.Tenant t Command.Report) (Body.Report r) w s = record passed {
+  in_report = agrees r w s;
+  in_still = option_map_or (λ q. list_all (λ p. p.0.free == p.1.free) (zip q.orders.items r.orders.items)
+      && list_all (λ p. p.0.empty == p.1.empty) (zip q.caches.items r.caches.items)) s.told true;
+}
+-- A superblock that the tenant gets had no owner, and one that it loses was its own. A granted slot was not held and ends at most
+-- at byte 2 ^ 32. A reset reports the number of the tenant's superblocks, and the reported table of owners is the known one.
+tests (Event.Admin (AdminCommand.Grant t)) (Body.Granted named u superblock) w s = record passed {
+  in_owners =
+      (named == t && has_owner is_none superblock w)
+      && (not (has_slot s.has u) && nat_le ((u + 1) * 2 ^ w.order * FRAME_BYTES) (2 ^ 32));
+}
+tests (Event.Admin (AdminCommand.TakeBack t u)) (Body.TakenBack superblock) w s =
+    record passed { in_owners = has_owner (is_owner t u) superblock w }
+tests (Event.Admin (AdminCommand.Reset t)) (Body.WasReset named superblocks) w s =
+    record passed { in_owners = named == t && superblocks == count_by (is_of t) w.owners }
+tests (Event.Admin (AdminCommand.Move t u)) (Body.Moved named slot superblock) w s =
+    record passed { in_owners = (named == t && slot == u) && has_owner is_none superblock w }
+tests (Event.Admin AdminCommand.Pool) (Body.Owners told) w s = record passed {
+  in_owners = length told.items == length w.owners
+      && list_all (λ p. option_eq (λ x y. x.tenant == y.tenant && x.slot == y.slot) p.0 p.1) (zip told.items w.owners);
+}
+tests (Event.Tenant t (Command.Alloc k)) body w s = passed
+tests (Event.Tenant t (Command.Free f)) body w s = passed
+tests (Event.Tenant t (Command.Read place len)) body w s = passed
+tests (Event.Tenant t (Command.Write place new)) body w s = passed
+tests (Event.Tenant t (Command.Cache size align pattern)) body w s = passed
+tests (Event.Tenant t (Command.Destroy number)) body w s = passed
+tests (Event.Tenant t (Command.Take number)) body w s = passed
+tests (Event.Tenant t (Command.Give number place)) body w s = passed
+tests (Event.Tenant t Command.Reap) body w s = passed
+tests (Event.Tenant t Command.Report) body w s = passed
+tests (Event.Admin (AdminCommand.Grant t)) body w s = passed
+tests (Event.Admin (AdminCommand.TakeBack t u)) body w s = passed
+tests (Event.Admin (AdminCommand.Reset t)) body w s = passed
+tests (Event.Admin (AdminCommand.Move t u)) body w s = passed
+tests (Event.Admin AdminCommand.Pool) body w s = passed
+
+abbrev pub blocks : Event → Body → Known → State → Bool
+blocks event body w s = (tests event body w s).in_blocks
+
+abbrev pub objects : Event → Body → Known → State → Bool
+objects event body w s = (tests event body w s).in_objects
+
+abbrev pub new_layout : Event → Body → Known → State → Bool
+new_layout event body w s = (tests event body w s).in_layout
+
+abbrev pub gives : Event → Body → Known → State → Bool
+gives event body w s = (tests event body w s).in_gives
+
+abbrev pub owners : Event → Body → Known → State → Bool
+owners event body w s = (tests event body w s).in_owners
+
+abbrev pub bytes : Event → Body → Known → State → Bool
+bytes event body w s = (tests event body w s).in_bytes
+
+abbrev pub report : Event → Body → Known → State → Bool
+report event body w s = (tests event body w s).in_report
+
 abbrev pub still : Event → Body → Known → State → Bool
-still (Event.Tenant t (Command.Destroy number)) (Body.Destroyed frames) w s =
-    option_map_or (λ r. frames == empty_frames (λ n. n == number) s.has r) s.told true
-still (Event.Tenant t Command.Reap) (Body.Reaped frames) w s =
-    option_map_or (λ r. frames == empty_frames (λ n. true) s.has r) s.told true
-still (Event.Tenant t Command.Report) (Body.Report r) w s =
-    option_map_or (λ q. list_all (λ p. p.0.free == p.1.free) (zip q.orders.items r.orders.items)
-    && list_all (λ p. p.0.empty == p.1.empty) (zip q.caches.items r.caches.items)) s.told true
-still (Event.Tenant t (Command.Alloc k)) body w s = true
-still (Event.Tenant t (Command.Free f)) body w s = true
-still (Event.Tenant t (Command.Read place len)) body w s = true
-still (Event.Tenant t (Command.Write place new)) body w s = true
-still (Event.Tenant t (Command.Cache size align pattern)) body w s = true
-still (Event.Tenant t (Command.Destroy number)) body w s = true
-still (Event.Tenant t (Command.Take number)) body w s = true
-still (Event.Tenant t (Command.Give number place)) body w s = true
-still (Event.Tenant t Command.Reap) body w s = true
-still (Event.Tenant t Command.Report) body w s = true
-still (Event.Admin (AdminCommand.Grant t)) body w s = true
-still (Event.Admin (AdminCommand.TakeBack t u)) body w s = true
-still (Event.Admin (AdminCommand.Reset t)) body w s = true
-still (Event.Admin (AdminCommand.Move t u)) body w s = true
-still (Event.Admin AdminCommand.Pool) body w s = true
+still event body w s = (tests event body w s).in_still
 
 -- The step
 
@@ -450,23 +292,7 @@ kept event reply w s = let body = reply.body in
     ∷ (Promise.Bytes, bytes event body w s) ∷ (Promise.Report, report event body w s) ∷ (Promise.Still, still event body w s) ∷ []
 
 abbrev pub is_no_tenant : Body → Bool
-is_no_tenant (Body.Refused refusal) = is_one refusal Refusal.NoTenant
-is_no_tenant (Body.Granted tenant slot superblock) = false
-is_no_tenant (Body.TakenBack superblock) = false
-is_no_tenant (Body.WasReset tenant superblocks) = false
-is_no_tenant (Body.Moved tenant slot superblock) = false
-is_no_tenant (Body.Owners told) = false
-is_no_tenant (Body.Frame f) = false
-is_no_tenant (Body.Freed k) = false
-is_no_tenant (Body.Bytes told) = false
-is_no_tenant (Body.Written n) = false
-is_no_tenant (Body.Cache number chunk q n colours) = false
-is_no_tenant (Body.Destroyed frames) = false
-is_no_tenant (Body.Object place) = false
-is_no_tenant Body.Given = false
-is_no_tenant (Body.Reaped frames) = false
-is_no_tenant (Body.Report r) = false
-is_no_tenant (Body.Fault fault) = false
+is_no_tenant body = option_map_or (λ refusal. is_one refusal Refusal.NoTenant) (refusal_in body) false
 
 -- The verdict on a reply. The `Option State` is the state of the named tenant. If it is None, that tenant does not exist, and the
 -- reply has to be `NoTenant`.

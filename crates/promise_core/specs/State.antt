@@ -105,33 +105,13 @@ state_after order (Event.Admin (AdminCommand.TakeBack t u)) (Body.TakenBack supe
 state_after order (Event.Admin (AdminCommand.Reset t)) (Body.WasReset named superblocks) s = Some opening_state
 state_after order (Event.Admin (AdminCommand.Move t u)) (Body.Moved named slot superblock) s = Some s
 state_after order (Event.Admin AdminCommand.Pool) (Body.Owners owners) s = Some s
-state_after order event (Body.Granted tenant slot superblock) s = None
-state_after order event (Body.TakenBack superblock) s = None
-state_after order event (Body.WasReset tenant superblocks) s = None
-state_after order event (Body.Moved tenant slot superblock) s = None
-state_after order event (Body.Owners told) s = None
-state_after order event (Body.Frame f) s = None
-state_after order event (Body.Freed k) s = None
-state_after order event (Body.Bytes told) s = None
-state_after order event (Body.Written n) s = None
-state_after order event (Body.Cache number chunk q n colours) s = None
-state_after order event (Body.Destroyed frames) s = None
-state_after order event (Body.Object place) s = None
-state_after order event Body.Given s = None
-state_after order event (Body.Reaped frames) s = None
-state_after order event (Body.Report r) s = None
-state_after order event (Body.Fault fault) s = None
+state_after order event body s = None
 
--- the owners after a reply to an event
+-- the owners after a reply to an event; only these four answers change them
 unfoldable pub owners_after : Event → Body → List (Option Owner) → List (Option Owner)
 owners_after (Event.Admin (AdminCommand.Grant t)) (Body.Granted named u superblock) owners = slice_set owners superblock (Some (owned_by t u))
 owners_after (Event.Admin (AdminCommand.TakeBack t u)) (Body.TakenBack superblock) owners = map (given_up (is_owner t u)) owners
 owners_after (Event.Admin (AdminCommand.Reset t)) (Body.WasReset named superblocks) owners = map (given_up (is_of t)) owners
 owners_after (Event.Admin (AdminCommand.Move t u)) (Body.Moved named slot superblock) owners =
     slice_set (map (given_up (is_owner t u)) owners) superblock (Some (owned_by t u))
-owners_after (Event.Tenant t command) body owners = owners
-owners_after (Event.Admin (AdminCommand.Grant t)) body owners = owners
-owners_after (Event.Admin (AdminCommand.TakeBack t u)) body owners = owners
-owners_after (Event.Admin (AdminCommand.Reset t)) body owners = owners
-owners_after (Event.Admin (AdminCommand.Move t u)) body owners = owners
-owners_after (Event.Admin AdminCommand.Pool) body owners = owners
+owners_after event body owners = owners
