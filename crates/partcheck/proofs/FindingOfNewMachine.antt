@@ -2,48 +2,48 @@
 use Rattle.std.proofs.Common.{◌≡◌, ℕ, List, ◌++◌, Some, Result, Ok, Err, IfOk, refl, subst, sym}
 use Rattle.model_core.specs.declared.config.Config.{Config}
 use Rattle.model_core.specs.declared.limits.TheConstants.{MAX_CACHES}
-use Rattle.check_core.specs.declared.finding.Breach.{Breach}
-use Rattle.check_core.specs.declared.finding.Finding.{Finding}
-use Rattle.check_core.specs.declared.finding.Finding.TheVariants.{Kept, Broken}
-use Rattle.check_core.specs.declared.finding.Unchecked.{Unchecked}
-use Rattle.check_core.specs.declared.shown.Shown.{Shown}
-use Rattle.check_core.specs.declared.shown.TheConstants.{MAX_PART_BYTES, MAX_TEXT_BYTES}
-use Rattle.check_core.specs.Checking.{HasRead, ShowsFinding}
-use Rattle.check_core.specs.Finding.{finding_of}
-use Rattle.check_core.specs.Gathered.{Gathers}
-use Rattle.check_core.specs.Laws.{BrokenIsNotAllowed, KeptIsAllowed}
-use Rattle.check_core.specs.Reading.{HasGiven, Source, WhateverFollows}
-use Rattle.check_core.proofs.ReadingLemmas.{known_rest}
+use Rattle.trace_check.specs.declared.finding.Breach.{Breach}
+use Rattle.trace_check.specs.declared.finding.Finding.{Finding}
+use Rattle.trace_check.specs.declared.finding.Finding.TheVariants.{Kept, Broken}
+use Rattle.trace_check.specs.declared.finding.Unchecked.{Unchecked}
+use Rattle.trace_check.specs.declared.shown.Shown.{Shown}
+use Rattle.trace_check.specs.declared.shown.TheConstants.{MAX_PART_BYTES, MAX_TEXT_BYTES}
+use Rattle.trace_check.specs.Checking.{HasRead, ShowsFinding}
+use Rattle.trace_check.specs.Finding.{finding_of}
+use Rattle.trace_check.specs.Gathered.{Gathers}
+use Rattle.trace_check.specs.Laws.{BrokenIsNotAllowed, KeptIsAllowed}
+use Rattle.trace_check.specs.Reading.{HasGiven, Source, WhateverFollows}
+use Rattle.trace_check.proofs.ReadingLemmas.{known_rest}
 use Rattle.promise_core.specs.State.{Known}
 use Rattle.partcheck.specs.Checked.{IsFindingOf, IsSoundFinding, opening_of}
 
-pub sound : KeptIsAllowed → BrokenIsNotAllowed → (config : Config) (finding : Finding) (asked told : List ℕ)
-    → finding ≡ finding_of (opening_of config) asked told → IsSoundFinding config finding asked told
-sound kept broken config (Kept lines) asked told is = kept MAX_CACHES config.order config.superblocks config.tenants lines asked told (sym is)
-sound kept broken config (Broken breach) asked told is = broken MAX_CACHES config.order config.superblocks config.tenants asked told breach (sym is)
+pub sound : KeptIsAllowed → BrokenIsNotAllowed → (config : Config) (finding : Finding) (trace_text reply_text : List ℕ)
+    → finding ≡ finding_of (opening_of config) trace_text reply_text → IsSoundFinding config finding trace_text reply_text
+sound kept broken config (Kept lines) trace_text reply_text is = kept MAX_CACHES config.order config.superblocks config.tenants lines trace_text reply_text (sym is)
+sound kept broken config (Broken breach) trace_text reply_text is = broken MAX_CACHES config.order config.superblocks config.tenants trace_text reply_text breach (sym is)
 
-pub finds : KeptIsAllowed → BrokenIsNotAllowed → (config : Config) (finding : Finding) (asked told : List ℕ)
-    → finding ≡ finding_of (opening_of config) asked told → IsFindingOf config finding asked told
-finds kept broken config finding asked told is = (is, sound kept broken config finding asked told is)
+pub finds : KeptIsAllowed → BrokenIsNotAllowed → (config : Config) (finding : Finding) (trace_text reply_text : List ℕ)
+    → finding ≡ finding_of (opening_of config) trace_text reply_text → IsFindingOf config finding trace_text reply_text
+finds kept broken config finding trace_text reply_text is = (is, sound kept broken config finding trace_text reply_text is)
 
 -- Let a property be true of any trace and replies that begin with the bytes that were read. If the trace and the replies are
 -- known, the property is true of them.
-pub known_texts : {trace trace' replies replies' : Source} {asked told : List ℕ} (IsSo : List ℕ → List ℕ → Type 0) → HasGiven trace trace' asked
-    → HasGiven replies replies' told → WhateverFollows trace' replies' asked told IsSo → (whole answers : List ℕ) → trace.left ≡ Some whole
+pub known_texts : {trace trace' replies replies' : Source} {trace_text reply_text : List ℕ} (IsSo : List ℕ → List ℕ → Type 0) → HasGiven trace trace' trace_text
+    → HasGiven replies replies' reply_text → WhateverFollows trace' replies' trace_text reply_text IsSo → (whole answers : List ℕ) → trace.left ≡ Some whole
     → replies.left ≡ Some answers → IsSo whole answers
-known_texts {told = told} IsSo asks tells so whole answers whole_is answers_is =
+known_texts {reply_text = reply_text} IsSo asks tells so whole answers whole_is answers_is =
     let (more, same, may) = known_rest asks whole whole_is in
     let (later, alike, might) = known_rest tells answers answers_is in
-    subst (λ xs. IsSo whole xs) (sym alike) (subst (λ xs. IsSo xs (told ++ later)) (sym same) (so more later may might))
+    subst (λ xs. IsSo whole xs) (sym alike) (subst (λ xs. IsSo xs (reply_text ++ later)) (sym same) (so more later may might))
 
 -- If `shown` keeps its line and its reply, it still shows the finding. A property of a breach can be replaced by one that follows
 -- from it.
-pub still_shown : (w : Known) (finding : Finding) (asked told : List ℕ) (old new : Shown) (Also So : List ℕ → List ℕ → Known → Type 0)
+pub still_shown : (w : Known) (finding : Finding) (trace_text reply_text : List ℕ) (old new : Shown) (Also So : List ℕ → List ℕ → Known → Type 0)
     → new.line ≡ old.line → new.reply ≡ old.reply
     → ((breach : Breach) (line reply : List ℕ) (now : Known) → finding ≡ Broken breach → HasRead line reply old → Also line reply now → So line reply now)
-    → ShowsFinding w finding asked told old Also → ShowsFinding w finding asked told new So
-still_shown w (Kept lines) asked told old new Also So line_is reply_is follows shows = tt
-still_shown w (Broken breach) asked told old new Also So line_is reply_is follows (line, reply, now, is, read, also) = (
+    → ShowsFinding w finding trace_text reply_text old Also → ShowsFinding w finding trace_text reply_text new So
+still_shown w (Kept lines) trace_text reply_text old new Also So line_is reply_is follows shows = tt
+still_shown w (Broken breach) trace_text reply_text old new Also So line_is reply_is follows (line, reply, now, is, read, also) = (
   line,
   reply,
   now,

@@ -2,9 +2,9 @@
 use Rattle.std.proofs.Common.{◌≡◌, List, ℕ, ◌++◌, Option, Result, Ok, Err, OnOk, subst}
 use Rattle.std.proofs.KnownBytes.{Appends-kept, Appends-trans}
 use Rattle.std.specs.Io.KnownBytes.{Appends, Keeps}
-use Rattle.check_core.specs.declared.finding.Finding.{Finding}
-use Rattle.check_core.specs.declared.finding.Finding.TheVariants.{Kept, Broken}
-use Rattle.check_core.specs.declared.shown.Shown.{Shown}
+use Rattle.trace_check.specs.declared.finding.Finding.{Finding}
+use Rattle.trace_check.specs.declared.finding.Finding.TheVariants.{Kept, Broken}
+use Rattle.trace_check.specs.declared.shown.Shown.{Shown}
 use Rattle.partcheck.specs.Telling.{AppendsFinding, breach_text, kept_text}
 
 -- `Appends` as a record, from which a proof can infer the texts
@@ -33,7 +33,7 @@ only_text a b (Err e) text whole appended is = tt
 
 -- if the success of a call implies a fact for each single pair of texts that was read, it implies the fact for all these pairs
 pub each_read : {E : Type 0} (r : Result (Unit {0}) E) (WasRead Is : List ℕ → List ℕ → Type 0)
-    → ((asked told : List ℕ) → WasRead asked told → OnOk r (Is asked told)) → OnOk r ((asked told : List ℕ) → WasRead asked told → Is asked told)
+    → ((trace_text reply_text : List ℕ) → WasRead trace_text reply_text → OnOk r (Is trace_text reply_text)) → OnOk r ((trace_text reply_text : List ℕ) → WasRead trace_text reply_text → Is trace_text reply_text)
 each_read (Ok x) WasRead Is each = each
 each_read (Err e) WasRead Is each = tt
 
@@ -42,7 +42,7 @@ finding_kept : (finding : Finding) (shown : Shown) (tenants : ℕ) (a b c : Opti
     → AppendsFinding finding shown tenants a c
 finding_kept (Kept lines) shown tenants a b c appended kept = Appends-kept a b c (kept_text lines tenants) appended kept
 finding_kept (Broken breach) shown tenants a b c appended kept =
-    λ asked told read. Appends-kept a b c (breach_text breach asked told shown.taken) (appended asked told read) kept
+    λ trace_text reply_text read. Appends-kept a b c (breach_text breach trace_text reply_text shown.taken) (appended trace_text reply_text read) kept
 
 pub finding_flushed : {E : Type 0} (finding : Finding) (shown : Shown) (tenants : ℕ) (a b c : Option (List ℕ)) (r : Result (Unit {0}) E)
     → AppendsFinding finding shown tenants a b → Keeps b c → OnOk r (AppendsFinding finding shown tenants a c)

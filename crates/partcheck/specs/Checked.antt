@@ -5,10 +5,10 @@ use Rattle.model_core.specs.declared.limits.TheConstants.{MAX_CACHES}
 use Rattle.words_core.specs.Cutting.{lines_of_trace}
 use Rattle.promise_core.specs.State.{Known, opening}
 use Rattle.promise_kept.specs.Written.{IsAllowedText}
-use Rattle.check_core.specs.declared.finding.Finding.{Finding}
-use Rattle.check_core.specs.declared.finding.Unchecked.TheVariants as Not
-use Rattle.check_core.specs.Finding.{finding_of}
-use Rattle.check_core.specs.Laws.{IsBreach}
+use Rattle.trace_check.specs.declared.finding.Finding.{Finding}
+use Rattle.trace_check.specs.declared.finding.Unchecked.TheVariants as Not
+use Rattle.trace_check.specs.Finding.{finding_of}
+use Rattle.trace_check.specs.Laws.{IsBreach}
 use Rattle.partcheck.specs.declared.checked.Checked.{Checked}
 
 -- the exit status of a check that ended in this way

@@ -8,7 +8,7 @@ use Rattle.command_line.specs.MachineOptions.{AsksNoSizes, AsksSizes, bad_size_t
 use Rattle.command_line.specs.Outcome.{IsBadLine, IsRefusedBy}
 use Rattle.command_line.specs.declared.outcome.Outcome.{Outcome}
 use Rattle.partcheck.specs.declared.settings.Settings.{Settings}
-use Rattle.check_core.specs.declared.finding.Unchecked.{Unchecked}
+use Rattle.trace_check.specs.declared.finding.Unchecked.{Unchecked}
 
 -- the path of the trace; None if it is `-`, which means standard input
 abbrev pub trace_file : Settings → Option Text

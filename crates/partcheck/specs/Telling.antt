@@ -7,13 +7,13 @@ use Rattle.std.specs.Str.{bytes_eq}
 use Rattle.std.specs.Str.Lines.{strip_carriage_return}
 use Rattle.promise_core.specs.Names.{name_of_promise}
 use Rattle.promise_core.specs.declared.promise.Promise.{Promise}
-use Rattle.check_core.specs.Checking.{HasRead}
-use Rattle.check_core.specs.Reading.{without_line_feed}
-use Rattle.check_core.specs.declared.finding.Breach.{Breach}
-use Rattle.check_core.specs.declared.finding.Finding.{Finding}
-use Rattle.check_core.specs.declared.shown.Shown.{Shown}
-use Rattle.check_core.specs.declared.shown.TheConstants.{MAX_PART_BYTES, MAX_TEXT_BYTES}
-use Rattle.check_core.specs.declared.taken.TakenFrame.{TakenFrame}
+use Rattle.trace_check.specs.Checking.{HasRead}
+use Rattle.trace_check.specs.Reading.{without_line_feed}
+use Rattle.trace_check.specs.declared.finding.Breach.{Breach}
+use Rattle.trace_check.specs.declared.finding.Finding.{Finding}
+use Rattle.trace_check.specs.declared.shown.Shown.{Shown}
+use Rattle.trace_check.specs.declared.shown.TheConstants.{MAX_PART_BYTES, MAX_TEXT_BYTES}
+use Rattle.trace_check.specs.declared.taken.TakenFrame.{TakenFrame}
 
 -- the word `one` if the count is 1, and otherwise the word `several`
 abbrev pub counted_word : (one several : List ℕ) → ℕ → List ℕ
@@ -114,14 +114,14 @@ reason_text Promise.Report taken = words_of_promise Promise.Report
 reason_text Promise.Still taken = words_of_promise Promise.Still
 
 -- the line if a reply is not allowed; it shows at most 255 bytes of the line of the trace, and at most 200 bytes of the reply
-unfoldable pub breach_text : Breach → (asked told : List ℕ) → Option TakenFrame → List ℕ
-breach_text breach asked told taken = concat (codes "line " ∷ decimal breach.line ∷ codes ", reply " ∷ decimal breach.reply ∷ codes ": "
-    ∷ excerpt_text (codes "no more lines") 255 (if_read trace_line (take MAX_PART_BYTES asked)) ∷ codes ", answered "
-    ∷ excerpt_text (codes "nothing") 200 (if_read without_line_feed (take MAX_TEXT_BYTES told)) ∷ codes ": " ∷ name_of_promise breach.promise ∷ codes ": "
+unfoldable pub breach_text : Breach → (trace_text reply_text : List ℕ) → Option TakenFrame → List ℕ
+breach_text breach trace_text reply_text taken = concat (codes "line " ∷ decimal breach.line ∷ codes ", reply " ∷ decimal breach.reply ∷ codes ": "
+    ∷ excerpt_text (codes "no more lines") 255 (if_read trace_line (take MAX_PART_BYTES trace_text)) ∷ codes ", answered "
+    ∷ excerpt_text (codes "nothing") 200 (if_read without_line_feed (take MAX_TEXT_BYTES reply_text)) ∷ codes ": " ∷ name_of_promise breach.promise ∷ codes ": "
     ∷ reason_text breach.promise taken ∷ codes "\n" ∷ [])
 
 -- the line of a finding was written; for a breach it shows the line of the trace and the reply that `shown` has
 abbrev pub AppendsFinding : Finding → Shown → (tenants : ℕ) → (old new : Option (List ℕ)) → Type 0
 AppendsFinding (Finding.Kept lines) shown tenants old new = Appends old new (kept_text lines tenants)
 AppendsFinding (Finding.Broken breach) shown tenants old new =
-    (asked told : List ℕ) → HasRead asked told shown → Appends old new (breach_text breach asked told shown.taken)
+    (trace_text reply_text : List ℕ) → HasRead trace_text reply_text shown → Appends old new (breach_text breach trace_text reply_text shown.taken)

@@ -5,9 +5,9 @@ ghost use Rattle.std.specs.Process.{exit_status};
 ghost use Rattle.partcheck.specs.Checked.{status_of_check};
 
 use crate::settings::{PROGRAM, REPLIES_PROGRAM, Settings};
-use check_core::{Finding, Unchecked};
 use command_line::{FileError, Outcome, tell, tell_file};
 use std::process::ExitCode;
+use trace_check::{Finding, Unchecked};
 
 /// How a check ended.
 #[derive(Clone, Copy, Debug)]

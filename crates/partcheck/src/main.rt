@@ -20,7 +20,6 @@ mod settings;
 mod telling;
 mod words;
 
-use check_core::{Finding, LineReader, Shown, Unchecked};
 use checked::{Checked, tell_checked};
 use command_line::{
     FileError, Outcome, Progress, ProgressReader, WatchedReader, hand_out, progress_in, tell,
@@ -34,6 +33,7 @@ use std::process::ExitCode;
 use std::rt::{Clock, Env, Files};
 use streams::ReaderFeed;
 use telling::write_finding;
+use trace_check::{Finding, LineReader, Shown, Unchecked};
 use words::read_words;
 
 /// Capacity of the buffer for the line of a finding.

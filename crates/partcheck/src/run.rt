@@ -3,19 +3,19 @@
 ghost use Rattle.std.specs.Prelude.{◌≡◌, ℕ, List, true, false, Some, Ok, IfOk, ◌⊎◌};
 ghost use Rattle.model_core.specs.Booting.{is_bootable};
 ghost use Rattle.promise_core.specs.State.{Known};
-ghost use Rattle.judge.specs.KnownMachine.{ShowsKnown};
-ghost use Rattle.check_core.specs.declared.finding.Breach.{Breach};
-ghost use Rattle.check_core.specs.Checking.{ComesToAdd, HasRead, IsEndedBy, IsKeptAtEnd, ShowsFinding};
-ghost use Rattle.check_core.specs.Reading.{HasGiven, WhateverFollows, readings_of};
-ghost use Rattle.check_core.specs.Taken.{IsNoted};
+ghost use Rattle.reply_judge.specs.KnownMachine.{ShowsKnown};
+ghost use Rattle.trace_check.specs.declared.finding.Breach.{Breach};
+ghost use Rattle.trace_check.specs.Checking.{ComesToAdd, HasRead, IsEndedBy, IsKeptAtEnd, ShowsFinding};
+ghost use Rattle.trace_check.specs.Reading.{HasGiven, WhateverFollows, readings_of};
+ghost use Rattle.trace_check.specs.Taken.{IsNoted};
 ghost use Rattle.partcheck.specs.Checked.{IsFindingOf, opening_of};
 
-use check_core::{Finding, LineReader, Shown, Unchecked, check, laws};
-use judge::KnownMachine;
 use model_core::config::Config;
+use reply_judge::KnownMachine;
 use std::alloc::Global;
 use std::mem;
 use streams::Feed;
+use trace_check::{Finding, LineReader, Shown, Unchecked, check, laws};
 
 /// Checks the replies to a trace on a machine of these sizes, in which no superblock is granted at first. Returns `Err` if the
 /// trace or the replies cannot be read, or if memory runs out. If a reply is not allowed, `shown` has the line and the reply, as
@@ -32,22 +32,22 @@ pub fn run<T: Feed, R: Feed>(
     requires bootable { is_bootable config ≡ true }
     requires trace_fine { trace.old.failed ≡ false }
     requires replies_fine { replies.old.failed ≡ false }
-    // `asked` is the text that was read of the trace, and `told` is the text that was read of the replies. All texts that begin
+    // `trace_text` is the text that was read of the trace, and `reply_text` is the text that was read of the replies. All texts that begin
     // with these have this finding, and it is true of them. If it is a breach, `shown` has the line and the reply of the breach,
     // and a live page block in the way of the reply is noted, by what is known after the earlier lines and their replies.
-    ensures found { (asked : List ℕ) × (told : List ℕ) × HasGiven trace.old trace.new asked × HasGiven replies.old replies.new told
-        × IfOk result (λ finding. WhateverFollows trace.new replies.new asked told (IsFindingOf config finding))
-        × IfOk result (λ finding. ShowsFinding (opening_of config) finding asked told shown.new
+    ensures found { (trace_text : List ℕ) × (reply_text : List ℕ) × HasGiven trace.old trace.new trace_text × HasGiven replies.old replies.new reply_text
+        × IfOk result (λ finding. WhateverFollows trace.new replies.new trace_text reply_text (IsFindingOf config finding))
+        × IfOk result (λ finding. ShowsFinding (opening_of config) finding trace_text reply_text shown.new
         (λ line reply now. IsNoted line reply now shown.old.taken shown.new.taken)) }
     ensures kept { IfOk result (λ finding. IsKeptAtEnd finding trace.new replies.new) }
     // If the texts of the trace and of the replies are known, they have this finding, and it is true of them.
-    ensures known { (asked told : List ℕ) → trace.old.left ≡ Some asked → replies.old.left ≡ Some told
-        → IfOk result (λ finding. IsFindingOf config finding asked told) }
+    ensures known { (trace_text reply_text : List ℕ) → trace.old.left ≡ Some trace_text → replies.old.left ≡ Some reply_text
+        → IfOk result (λ finding. IsFindingOf config finding trace_text reply_text) }
     // Memory runs out only before anything is read, or at a reply that adds something to what is known. This reply and all
     // replies before it are allowed.
     ensures end { IsEndedBy result trace.new.failed replies.new.failed (((trace.new ≡ trace.old) × (replies.new ≡ replies.old))
-        ⊎ ((asked : List ℕ) × (told : List ℕ) × HasGiven trace.old trace.new asked × HasGiven replies.old replies.new told
-        × WhateverFollows trace.new replies.new asked told
+        ⊎ ((trace_text : List ℕ) × (reply_text : List ℕ) × HasGiven trace.old trace.new trace_text × HasGiven replies.old replies.new reply_text
+        × WhateverFollows trace.new replies.new trace_text reply_text
         (λ trace replies. ComesToAdd (readings_of trace) replies (opening_of config)))) }
 {
     laws::kept_is_allowed();
@@ -69,8 +69,8 @@ pub fn run<T: Feed, R: Feed>(
 fn note_taken(found: &Result<Finding, Unchecked>, machine: &KnownMachine, shown: &mut Shown)
     ensures line { shown.new.line ≡ shown.old.line }
     ensures reply { shown.new.reply ≡ shown.old.reply }
-    ensures taken { (breach : Breach) (asked told : List ℕ) (w : Known) → found.now ≡ Ok (Finding.Broken breach)
-        → HasRead asked told shown.old → ShowsKnown machine.now w → IsNoted asked told w shown.old.taken shown.new.taken }
+    ensures taken { (breach : Breach) (trace_text reply_text : List ℕ) (w : Known) → found.now ≡ Ok (Finding.Broken breach)
+        → HasRead trace_text reply_text shown.old → ShowsKnown machine.now w → IsNoted trace_text reply_text w shown.old.taken shown.new.taken }
 {
     if let Ok(Finding::Broken(_)) = found {
         shown.look_for_taken(machine);

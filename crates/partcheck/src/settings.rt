@@ -3,9 +3,9 @@
 ghost use Rattle.std.specs.Prelude.{◌≡◌, true};
 ghost use Rattle.model_core.specs.Booting.{is_bootable};
 
-use check_core::Unchecked;
 use command_line::Program;
 use model_core::config::Config;
+use trace_check::Unchecked;
 
 /// What this program prints about itself.
 pub const PROGRAM: Program<'static> = Program {

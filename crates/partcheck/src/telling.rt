@@ -5,15 +5,15 @@ ghost use Rattle.std.specs.Char.Escape.{escape_ascii};
 ghost use Rattle.std.specs.Io.KnownBytes.{Appends};
 ghost use Rattle.std.specs.List.{list_all};
 ghost use Rattle.std.specs.Str.Lines.{strip_carriage_return};
-ghost use Rattle.check_core.specs.Checking.{HasRead};
-ghost use Rattle.check_core.specs.Reading.{without_line_feed};
+ghost use Rattle.trace_check.specs.Checking.{HasRead};
+ghost use Rattle.trace_check.specs.Reading.{without_line_feed};
 ghost use Rattle.partcheck.specs.Telling.{AppendsFinding, begin_text, breach_text, counted_word, cut_mark, excerpt_of, excerpt_text};
 ghost use Rattle.partcheck.specs.Telling.{has_filled_ends, if_read, is_plain_text, is_reply_byte, is_shown_plain, kept_text, plain_byte};
 ghost use Rattle.partcheck.specs.Telling.{reason_text, trace_line, words_of_promise};
 
-use check_core::{Breach, Finding, Shown, TakenFrame};
 use promise_core::promise::Promise;
 use std::io::{self, Write};
+use trace_check::{Breach, Finding, Shown, TakenFrame};
 
 /// The largest number of bytes of a trace line that are printed. A line with more bytes has the fault `Long`.
 const MAX_LINE_BYTES: usize = 255;
@@ -64,8 +64,8 @@ fn counted<'a>(one: &'a str, several: &'a str, count: u128) -> &'a str
 }
 
 fn write_breach<W: Write>(out: &mut W, breach: &Breach, shown: &Shown) -> io::Result<()>
-    ensures { OnOk result ((asked told : List ℕ) → HasRead asked told shown.now
-        → Appends (W.contents out.old) (W.contents out.new) (breach_text breach.now asked told shown.now.taken)) }
+    ensures { OnOk result ((trace_text reply_text : List ℕ) → HasRead trace_text reply_text shown.now
+        → Appends (W.contents out.old) (W.contents out.new) (breach_text breach.now trace_text reply_text shown.now.taken)) }
 {
     let Breach {
         line,
@@ -73,11 +73,11 @@ fn write_breach<W: Write>(out: &mut W, breach: &Breach, shown: &Shown) -> io::Re
         promise,
     } = breach;
     write!(out, "line {line}, reply {reply}: ")?;
-    let asked = line_read(shown.line.front());
-    write_shown(out, asked, MAX_LINE_BYTES, "no more lines")?;
+    let trace_text = line_read(shown.line.front());
+    write_shown(out, trace_text, MAX_LINE_BYTES, "no more lines")?;
     out.write_all(b", answered ")?;
-    let told = lines_read(shown.reply.front());
-    write_shown(out, told, MAX_REPLY_BYTES, "nothing")?;
+    let reply_text = lines_read(shown.reply.front());
+    write_shown(out, reply_text, MAX_REPLY_BYTES, "nothing")?;
     write!(out, ": {promise}: ")?;
     write_reason(out, *promise, shown.taken)?;
     out.write_all(b"\n")

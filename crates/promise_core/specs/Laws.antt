@@ -31,7 +31,7 @@ writes_byte t place byte event body = false
 
 -- the event grants tenant t the slot that contains the place; slots have 2 ^ order frames
 abbrev pub grants_slot : ℕ → ℕ → ℕ → Event → Body → Bool
-grants_slot order t place (Event.Admin (AdminCommand.Grant named)) (Body.Granted told u superblock) = named == t && slot_of order place == u
+grants_slot order t place (Event.Admin (AdminCommand.Grant named)) (Body.Granted tenant u superblock) = named == t && slot_of order place == u
 grants_slot order t place event body = false
 
 -- the byte is in a pattern that the tenant gave, in these exchanges or before
@@ -51,10 +51,10 @@ is_own order t place byte es = byte == 0 || (was_given t byte false es || was_wr
 
 -- After allowed replies, each byte in an allowed reply to a read is the tenant's own.
 abbrev pub Confined : Type 0
-Confined = (limit order superblocks tenants t begin len j byte : ℕ) (es : List Exchange) (addressee : Addressee) (told : ArrayVec ℕ) (w v : Known)
+Confined = (limit order superblocks tenants t begin len j byte : ℕ) (es : List Exchange) (addressee : Addressee) (read : ArrayVec ℕ) (w v : Known)
     → all_allowed es (Ok (opening limit order superblocks tenants)) ≡ Ok w
-    → allowed (Event.Tenant t (Command.Read begin len)) (record { addressee = addressee; body = Body.Bytes told }) w ≡ Ok v
-    → slice_get told.items j ≡ Some byte → is_own order t (begin + j) byte es ≡ true
+    → allowed (Event.Tenant t (Command.Read begin len)) (record { addressee = addressee; body = Body.Bytes read }) w ≡ Ok v
+    → slice_get read.items j ≡ Some byte → is_own order t (begin + j) byte es ≡ true
 
 -- the block is a page block (None), or the slab of a live object of the cache with this number
 abbrev pub Uses : Holdings → Option ℕ → Block → Type 0

@@ -172,9 +172,9 @@ tests (Event.Tenant t (Command.Alloc k)) (Body.Frame f) w s = record passed { in
 tests (Event.Tenant t (Command.Free f)) (Body.Freed k) w s = record passed { in_gives = option_eq (λ i j. i == j) (order_in s.has.pages f) (Some k) }
 -- Each byte that a read returns may be the byte at its place. A read returns as many bytes as it requests, and a write reports as
 -- many bytes as it has.
-tests (Event.Tenant t (Command.Read place len)) (Body.Bytes told) w s = record passed {
-  in_bytes = length told.items == len
-      && option_map_or (λ holder. may_all_be s.has s.cells holder place told.items) (holder_of s.has place len) false;
+tests (Event.Tenant t (Command.Read place len)) (Body.Bytes read) w s = record passed {
+  in_bytes = length read.items == len
+      && option_map_or (λ holder. may_all_be s.has s.cells holder place read.items) (holder_of s.has place len) false;
 }
 tests (Event.Tenant t (Command.Write place new)) (Body.Written n) w s = record passed { in_bytes = length new.items == n }
 -- a new cache has an unused number, which is below the limit, and at each colour a slab's objects fit into the slab
@@ -187,7 +187,7 @@ tests (Event.Tenant t (Command.Cache size align pattern)) (Body.Cache number chu
 -- counts in empty slabs of the cache.
 tests (Event.Tenant t (Command.Destroy number)) (Body.Destroyed frames) w s = record passed {
   in_gives = can_come_back w.order (filter (λ c. c.number == number) s.has.caches) frames s;
-  in_still = option_map_or (λ r. frames == empty_frames (λ n. n == number) s.has r) s.told true;
+  in_still = option_map_or (λ r. frames == empty_frames (λ n. n == number) s.has r) s.last_report true;
 }
 tests (Event.Tenant t (Command.Take number)) (Body.Object place) w s = record passed {
   in_objects =
@@ -195,13 +195,13 @@ tests (Event.Tenant t (Command.Take number)) (Body.Object place) w s = record pa
 }
 tests (Event.Tenant t Command.Reap) (Body.Reaped frames) w s = record passed {
   in_gives = can_come_back w.order s.has.caches frames s;
-  in_still = option_map_or (λ r. frames == empty_frames (λ n. true) s.has r) s.told true;
+  in_still = option_map_or (λ r. frames == empty_frames (λ n. true) s.has r) s.last_report true;
 }
 -- A new report counts the same free blocks and empty slabs as the last report. (Its other figures follow from the state.)
 tests (Event.Tenant t Command.Report) (Body.Report r) w s = record passed {
   in_report = agrees r w s;
   in_still = option_map_or (λ q. list_all (λ p. p.0.free == p.1.free) (zip q.orders.items r.orders.items)
-      && list_all (λ p. p.0.empty == p.1.empty) (zip q.caches.items r.caches.items)) s.told true;
+      && list_all (λ p. p.0.empty == p.1.empty) (zip q.caches.items r.caches.items)) s.last_report true;
 }
 -- A superblock that the tenant gets had no owner, and one that it loses was its own. A granted slot was not held and ends at most
 -- at byte 2 ^ 32. A reset reports the number of the tenant's superblocks, and the reported table of owners is the known one.
@@ -216,9 +216,9 @@ tests (Event.Admin (AdminCommand.Reset t)) (Body.WasReset named superblocks) w s
     record passed { in_owners = named == t && superblocks == count_by (is_of t) w.owners }
 tests (Event.Admin (AdminCommand.Move t u)) (Body.Moved named slot superblock) w s =
     record passed { in_owners = (named == t && slot == u) && has_owner is_none superblock w }
-tests (Event.Admin AdminCommand.Pool) (Body.Owners told) w s = record passed {
-  in_owners = length told.items == length w.owners
-      && list_all (λ p. option_eq (λ x y. x.tenant == y.tenant && x.slot == y.slot) p.0 p.1) (zip told.items w.owners);
+tests (Event.Admin AdminCommand.Pool) (Body.Owners table) w s = record passed {
+  in_owners = length table.items == length w.owners
+      && list_all (λ p. option_eq (λ x y. x.tenant == y.tenant && x.slot == y.slot) p.0 p.1) (zip table.items w.owners);
 }
 tests (Event.Tenant t (Command.Alloc k)) body w s = passed
 tests (Event.Tenant t (Command.Free f)) body w s = passed

@@ -15,17 +15,17 @@ use Rattle.model_core.specs.Owners.{owned_by, is_of, is_owner}
 use Rattle.promise_core.specs.Holdings.{KnownCache, Holdings, known_cache, with_live_places, slab_around, are_apart}
 use Rattle.promise_core.specs.Bytes.{Holder, is_object, is_same, Cells, with_bytes, doubted, without, holder_of}
 
--- What is known of a tenant. A cache whose number passes `may_have_empty` may have a slab without live objects. `told` is the
+-- What is known of a tenant. A cache whose number passes `may_have_empty` may have a slab without live objects. `last_report` is the
 -- last report, or None if it is no longer valid.
 pub record State : Type 0 where
   pub has : Holdings
   pub cells : Cells
   pub may_have_empty : ℕ → Bool
-  pub told : Option Report
+  pub last_report : Option Report
 
 unfoldable pub opening_state : State
 opening_state =
-    record { has = record { slots = []; pages = []; caches = [] }; cells = λ place. None; may_have_empty = λ n. false; told = None }
+    record { has = record { slots = []; pages = []; caches = [] }; cells = λ place. None; may_have_empty = λ n. false; last_report = None }
 
 -- the owner of each superblock (a tenant and one of its slots, or None), and the state of each tenant; a tenant may have at most
 -- `limit` caches, and slots have 2 ^ order frames
@@ -62,10 +62,10 @@ unfoldable pub state_after : ℕ → Event → Body → State → Option State
 state_after order event (Body.Refused refusal) s = Some s
 state_after order (Event.Tenant t (Command.Alloc k)) (Body.Frame f) s = let b = block f k in
     let cells = without (λ place holder. in_block place b && not (is_same Holder.Page holder)) s.cells in
-    Some (record s { has = record s.has { pages = put_rising (λ x. x.first) b s.has.pages }; cells = cells; told = None })
+    Some (record s { has = record s.has { pages = put_rising (λ x. x.first) b s.has.pages }; cells = cells; last_report = None })
 state_after order (Event.Tenant t (Command.Free f)) (Body.Freed k) s =
     let cells = doubted (λ place holder. in_block place (block f k) && is_same Holder.Page holder) s.cells in
-    Some (record s { has = record s.has { pages = filter (λ x. not (x.first == f)) s.has.pages }; cells = cells; told = None })
+    Some (record s { has = record s.has { pages = filter (λ x. not (x.first == f)) s.has.pages }; cells = cells; last_report = None })
 state_after order (Event.Tenant t (Command.Read place len)) (Body.Bytes bytes) s =
     Some (with_range place bytes.items s (holder_of s.has place len))
 state_after order (Event.Tenant t (Command.Write place bytes)) (Body.Written n) s =
@@ -81,27 +81,27 @@ state_after order (Event.Tenant t (Command.Cache size align pattern)) (Body.Cach
       count = n;
       live = [];
     } in
-    Some (record s { has = record s.has { caches = put_rising (λ x. x.number) c s.has.caches }; told = None })
+    Some (record s { has = record s.has { caches = put_rising (λ x. x.number) c s.has.caches }; last_report = None })
 state_after order (Event.Tenant t (Command.Destroy number)) (Body.Destroyed frames) s =
     let caches = filter (λ c. not (c.number == number)) s.has.caches in
     let cells = without (λ place. is_object (λ n p. n == number)) s.cells in
-    Some (record { has = record s.has { caches = caches }; cells = cells; may_have_empty = λ n. not (n == number) && s.may_have_empty n; told = None })
+    Some (record { has = record s.has { caches = caches }; cells = cells; may_have_empty = λ n. not (n == number) && s.may_have_empty n; last_report = None })
 state_after order (Event.Tenant t (Command.Take number)) (Body.Object place) s =
     let has = with_live_places number (put_rising (λ p. p) place) s.has in
     let cells = with_object place (known_cache s.has number) s.cells in
-    Some (record { has = has; cells = cells; may_have_empty = λ n. n == number || s.may_have_empty n; told = None })
+    Some (record { has = has; cells = cells; may_have_empty = λ n. n == number || s.may_have_empty n; last_report = None })
 state_after order (Event.Tenant t (Command.Give number place)) Body.Given s =
     let has = with_live_places number (filter (λ p. not (p == place))) s.has in
-    Some (record s { has = has; cells = doubted (λ p. is_same (Holder.Object number place)) s.cells; told = None })
+    Some (record s { has = has; cells = doubted (λ p. is_same (Holder.Object number place)) s.cells; last_report = None })
 state_after order (Event.Tenant t Command.Reap) (Body.Reaped frames) s =
     let cells = without (λ place. is_object (is_in_no_slab s.has)) s.cells in
-    Some (record s { cells = cells; may_have_empty = λ n. is_in_use (known_cache s.has n); told = None })
-state_after order (Event.Tenant t Command.Report) (Body.Report r) s = Some (record s { told = Some r })
+    Some (record s { cells = cells; may_have_empty = λ n. is_in_use (known_cache s.has n); last_report = None })
+state_after order (Event.Tenant t Command.Report) (Body.Report r) s = Some (record s { last_report = Some r })
 state_after order (Event.Admin (AdminCommand.Grant t)) (Body.Granted named u superblock) s =
-    Some (record s { has = record s.has { slots = put_rising (λ v. v) u s.has.slots }; told = None })
+    Some (record s { has = record s.has { slots = put_rising (λ v. v) u s.has.slots }; last_report = None })
 state_after order (Event.Admin (AdminCommand.TakeBack t u)) (Body.TakenBack superblock) s =
     let cells = without (λ place holder. slot_of order place == u) s.cells in
-    Some (record s { has = record s.has { slots = filter (λ v. not (v == u)) s.has.slots }; cells = cells; told = None })
+    Some (record s { has = record s.has { slots = filter (λ v. not (v == u)) s.has.slots }; cells = cells; last_report = None })
 state_after order (Event.Admin (AdminCommand.Reset t)) (Body.WasReset named superblocks) s = Some opening_state
 state_after order (Event.Admin (AdminCommand.Move t u)) (Body.Moved named slot superblock) s = Some s
 state_after order (Event.Admin AdminCommand.Pool) (Body.Owners owners) s = Some s

@@ -43,7 +43,7 @@ abbrev after_alloc : Block → State → State
 after_alloc b s = record s {
   has = record s.has { pages = put_rising (λ x. x.first) b s.has.pages };
   cells = without (left_there b) s.cells;
-  told = None;
+  last_report = None;
 }
 
 lives_on : (b : Block) (h : Holdings) (holder : Holder) (place : ℕ) → is_object_live h holder place ≡ true

@@ -91,7 +91,7 @@ module _ (limit order size align : ℕ) (pattern : ArrayVec ℕ) (m : Machine) (
   new = record { number = next_number m; size = size; align = align; pattern = pattern.items; made = 0; slabs = [] }
 
   abbrev after_cache : State
-  after_cache = record s { has = record s.has { caches = put_rising (λ (x : KnownCache). x.number) (cache_as_known new) s.has.caches }; told = None }
+  after_cache = record s { has = record s.has { caches = put_rising (λ (x : KnownCache). x.number) (cache_as_known new) s.has.caches }; last_report = None }
 
   old : (c : Cache) (t : Slab) → IsIn c (created (next_number m) size align pattern.items m).caches → IsIn t c.slabs → IsIn c m.caches
   old c t in_c in_t = go (in_put (λ x. x.number) new c m.caches in_c)

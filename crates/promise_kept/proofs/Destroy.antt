@@ -102,11 +102,11 @@ module _ (limit order : ℕ) (c : Cache) (m : Machine) (s : State) (w : IsWellFo
           (eq-eqb (all % 2 ^ (layout c).order) 0 (frames_divide (layout c).order (slab_blocks c)
           (each_map (λ b. (layout c).order ≤ b.order) (slab_block c) c.slabs (each_true (λ x. (layout c).order ≤ (layout c).order) (λ x. omega arith) c.slabs)))))))
 
-  stays_told : option_map_or (λ r. eqb (frames_of (slab_blocks c)) (empty_frames (λ n. eqb n c.number) (holdings_of m) r)) s.told true ≡ true
+  stays_told : option_map_or (λ r. eqb (frames_of (slab_blocks c)) (empty_frames (λ n. eqb n c.number) (holdings_of m) r)) s.last_report true ≡ true
   unfolding holdings_of
-  stays_told = go s.told refl
+  stays_told = go s.last_report refl
     where
-      go : (o : Option Report) → s.told ≡ o → option_map_or (λ r. eqb (frames_of (slab_blocks c)) (empty_frames (λ n. eqb n c.number) (holdings_of m) r)) o true ≡ true
+      go : (o : Option Report) → s.last_report ≡ o → option_map_or (λ r. eqb (frames_of (slab_blocks c)) (empty_frames (λ n. eqb n c.number) (holdings_of m) r)) o true ≡ true
       go None e = refl
       go (Some r) e = eq-eqb (frames_of (slab_blocks c)) _ (ap frames_of (sym (one_passes c m.caches at ∙ blocks_are)) ∙ sym (told_frames (λ n. eqb n c.number) m.caches r.caches.items (h.empty_told r e)))
 
@@ -115,7 +115,7 @@ module _ (limit order : ℕ) (c : Cache) (m : Machine) (s : State) (w : IsWellFo
     has = record (holdings_of m) { caches = filter (λ x. not (eqb x.number c.number)) (holdings_of m).caches };
     cells = without (λ place. is_object (λ n p. eqb n c.number)) s.cells;
     may_have_empty = λ n. not (eqb n c.number) && s.may_have_empty n;
-    told = None;
+    last_report = None;
   }
 
   has_after : after.has ≡ holdings_of (destroyed c m)

@@ -36,7 +36,7 @@ without_pages first h = record h { pages = filter (λ x. not (eqb x.first first)
 
 -- what is known after a page block is freed
 abbrev after_free : ℕ → ℕ → State → State
-after_free first k s = record s { has = without_pages first s.has; cells = doubted (freed_there (block first k)) s.cells; told = None }
+after_free first k s = record s { has = without_pages first s.has; cells = doubted (freed_there (block first k)) s.cells; last_report = None }
 
 lives_still : (first k : ℕ) (h : Holdings) → RisesFrom 0 (map (λ b. b.first) h.pages) → order_in h.pages first ≡ Some k → (holder : Holder) (place : ℕ) → is_object_live h holder place ≡ true
     → freed_there (block first k) place holder ≡ false → is_object_live (without_pages first h) holder place ≡ true

@@ -83,7 +83,7 @@ module _ (limit order place : ℕ) (c : Cache) (o : LiveObject) (m : Machine) (s
       (and_from (eqb number c.number) (eqb first place) (eq-eqb number c.number same) (eq-eqb first place f)))))
 
   after : State
-  after = record s { has = holdings_of n; cells = doubted (λ p. is_same (Holder.Object c.number place)) s.cells; told = None }
+  after = record s { has = holdings_of n; cells = doubted (λ p. is_same (Holder.Object c.number place)) s.cells; last_report = None }
 
   meets : Meets order after n
   unfolding after

@@ -25,7 +25,7 @@ use Rattle.promise_kept.proofs.PlaceCells.{fresh_may}
 
 -- the state without the last report
 abbrev pub untold : State → State
-untold s = record s { told = None }
+untold s = record s { last_report = None }
 
 pub meets_untold : (order : ℕ) (s : State) (m : Machine) → Meets order s m → Meets order (untold s) m
 meets_untold order s m h = record {

@@ -49,11 +49,11 @@ module _ (limit order : ℕ) (m : Machine) (s : State) (w : IsWellFormed limit o
           (and_from (s.may_have_empty l.cache.number) (eqb (all % 2 ^ (layout l.cache).order) 0) (h.may_have_empty l.cache l.slab (in_contains l.cache m.caches l.cache_in) (in_contains l.slab l.cache.slabs l.slab_in))
           (eq-eqb (all % 2 ^ (layout l.cache).order) 0 (frames_divide (layout l.cache).order (flat_map empty_blocks m.caches) l.least)))))
 
-  stays_told : option_map_or (λ r. eqb (frames_of (flat_map empty_blocks m.caches)) (empty_frames (λ n. true) (holdings_of m) r)) s.told true ≡ true
+  stays_told : option_map_or (λ r. eqb (frames_of (flat_map empty_blocks m.caches)) (empty_frames (λ n. true) (holdings_of m) r)) s.last_report true ≡ true
   unfolding holdings_of
-  stays_told = go s.told refl
+  stays_told = go s.last_report refl
     where
-      go : (o : Option Report) → s.told ≡ o → option_map_or (λ r. eqb (frames_of (flat_map empty_blocks m.caches)) (empty_frames (λ n. true) (holdings_of m) r)) o true ≡ true
+      go : (o : Option Report) → s.last_report ≡ o → option_map_or (λ r. eqb (frames_of (flat_map empty_blocks m.caches)) (empty_frames (λ n. true) (holdings_of m) r)) o true ≡ true
       go None e = refl
       go (Some r) e = eq-eqb (frames_of (flat_map empty_blocks m.caches)) _ (sym (told_frames (λ n. true) m.caches r.caches.items (h.empty_told r e)))
 
@@ -91,7 +91,7 @@ module _ (limit order : ℕ) (m : Machine) (s : State) (w : IsWellFormed limit o
     has = holdings_of m;
     cells = without (λ place. is_object (is_in_no_slab (holdings_of m))) s.cells;
     may_have_empty = λ n. is_in_use (known_cache (holdings_of m) n);
-    told = None;
+    last_report = None;
   }
 
   was : (c : Cache) → Contains (reaped m).caches c → (d : Cache) × IsIn d m.caches × (without_empty d ≡ c)

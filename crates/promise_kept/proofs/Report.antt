@@ -202,9 +202,9 @@ module _ (limit order : ℕ) (m : Machine) (s : State) (w : IsWellFormed limit o
   stays : (t : ℕ) (owners : List (Option Owner)) (states : List State)
       → still (On.Tenant t Command.Report) (Say.Report (figures_of order m)) (record { limit = limit; order = order; owners = owners; states = states }) (seen m s) ≡ true
   unfolding figures_of
-  stays t owners states = go s.told refl
+  stays t owners states = go s.last_report refl
     where
-      go : (o : Option Report) → s.told ≡ o → option_map_or (λ q. list_all (λ p. eqb p.0.free p.1.free) (zip q.orders.items (order_rows order m (order + 1)))
+      go : (o : Option Report) → s.last_report ≡ o → option_map_or (λ q. list_all (λ p. eqb p.0.free p.1.free) (zip q.orders.items (order_rows order m (order + 1)))
           && list_all (λ p. eqb p.0.empty p.1.empty) (zip q.caches.items (rows_of_caches m))) o true ≡ true
       go None e = refl
       go (Some r) e = and_from (list_all (λ p. eqb p.0.free p.1.free) (zip r.orders.items (order_rows order m (order + 1)))) (list_all (λ p. eqb p.0.empty p.1.empty) (zip r.caches.items (rows_of_caches m)))
@@ -212,7 +212,7 @@ module _ (limit order : ℕ) (m : Machine) (s : State) (w : IsWellFormed limit o
           (zip_same (λ row. row.empty) r.caches.items (rows_of_caches m) (h.empty_told r e))
 
   after : State
-  after = record (seen m s) { told = Some (figures_of order m) }
+  after = record (seen m s) { last_report = Some (figures_of order m) }
 
   meets : Meets order after m
   unfolding figures_of after

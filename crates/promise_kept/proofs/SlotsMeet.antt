@@ -38,13 +38,13 @@ of_slot order u place holder = eqb (slot_of order place) u
 -- What is known after a slot is granted or taken back
 
 abbrev pub granted : ℕ → State → State
-granted u s = record s { has = record s.has { slots = put_rising (λ v. v) u s.has.slots }; told = None }
+granted u s = record s { has = record s.has { slots = put_rising (λ v. v) u s.has.slots }; last_report = None }
 
 abbrev pub taken_back : ℕ → ℕ → State → State
 taken_back order u s = record s {
   has = record s.has { slots = filter (λ v. not (eqb v u)) s.has.slots };
   cells = without (of_slot order u) s.cells;
-  told = None;
+  last_report = None;
 }
 
 module _ {limit : ℕ} (order : ℕ) (m : Machine) (s : State) (w : IsWellFormed limit order m) (h : Meets order s m) where

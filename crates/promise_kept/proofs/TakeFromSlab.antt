@@ -37,7 +37,7 @@ use Rattle.promise_kept.proofs.FreeObject.{two_apart, can_take}
 
 -- the state s, except that the cache with this number may have an empty slab, and that there is no valid report
 abbrev pub hidden : ℕ → State → State
-hidden number s = record s { may_have_empty = λ n. eqb n number || s.may_have_empty n; told = None }
+hidden number s = record s { may_have_empty = λ n. eqb n number || s.may_have_empty n; last_report = None }
 
 -- The place is in the slab around `first`. The holder is neither the object of cache c that begins at `first`, nor an object of
 -- cache c that shares no byte with that object.
@@ -101,7 +101,7 @@ module _ {limit : ℕ} (order : ℕ) (c : Cache) (s : Slab) (i : ℕ) (m : Machi
     has = holdings_of n;
     cells = without (left_beside (cache_as_known c) place) st.cells;
     may_have_empty = λ k. eqb k c.number || st.may_have_empty k;
-    told = None;
+    last_report = None;
   }
 
   meets : Meets order after n
@@ -149,7 +149,7 @@ module _ {limit : ℕ} (order : ℕ) (c : Cache) (s : Slab) (i : ℕ) (m : Machi
     has = with_live_told c.number (put_rising (λ p. p) place) (holdings_of m);
     cells = with_object place (known_cache (holdings_of m) c.number) st.cells;
     may_have_empty = λ k. eqb k c.number || st.may_have_empty k;
-    told = None;
+    last_report = None;
   }
 
   said_meets : Meets order said n

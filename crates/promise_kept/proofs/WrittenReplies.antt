@@ -41,8 +41,8 @@ unfolding opening_history
 shown_is_allowed only limit order superblocks tenants lines le ram =
     let run : IsKeptRun limit order superblocks tenants (events_of lines) = keeps_promises limit order superblocks tenants (events_of lines) le ram (lines_asked lines) in record {
       exchanges = history limit order (opening_world superblocks tenants) (events_of lines);
-      asked = history_events limit order (events_of lines) (opening_world superblocks tenants);
-      told = lines_told only limit order lines (opening_world superblocks tenants);
+      events = history_events limit order (events_of lines) (opening_world superblocks tenants);
+      replies = lines_told only limit order lines (opening_world superblocks tenants);
       after = run.after;
       are_allowed = run.are_allowed;
     }

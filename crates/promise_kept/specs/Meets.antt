@@ -53,8 +53,8 @@ pub record Meets (order : ℕ) (s : State) (m : Machine) : Type 0 where
   pub object_bytes : (o : Object) (j byte : ℕ) → IsObject m o → j < o.cache.size → m.bytes (place_of o + j) ≡ Some byte
       → may_be (Holder.Object o.cache.number (place_of o)) (pattern_byte o.cache.pattern j) (s.cells (place_of o + j)) byte ≡ true
   -- a valid report has the empty slabs and the free blocks of the machine
-  pub empty_told : (r : Report) → s.told ≡ Some r → map (λ row. row.empty) r.caches.items ≡ map (λ row. row.empty) (rows_of_caches m)
-  pub free_told : (r : Report) → s.told ≡ Some r → map (λ row. row.free) r.orders.items ≡ map (λ row. row.free) (order_rows order m (order + 1))
+  pub empty_told : (r : Report) → s.last_report ≡ Some r → map (λ row. row.empty) r.caches.items ≡ map (λ row. row.empty) (rows_of_caches m)
+  pub free_told : (r : Report) → s.last_report ≡ Some r → map (λ row. row.free) r.orders.items ≡ map (λ row. row.free) (order_rows order m (order + 1))
 
 -- The reply `body` to a tenant's command keeps each promise, and what is known after the reply is true of the machine `after`.
 pub record IsKeptBy (limit order : ℕ) (command : Command) (s : State) (body : Body) (after : Machine) : Type 0 where

@@ -25,7 +25,7 @@ text_of_replies only (Ok (Some event) ∷ readings) (e ∷ es) = shown_text only
 -- replies is allowed, even if it is not shown. A tenant may have `limit` caches, and slots have 2 ^ order frames.
 pub record IsAllowedText (only : Option ℕ) (limit order superblocks tenants : ℕ) (lines : List (List ℕ)) (text : List ℕ) : Type 0 where
   pub exchanges : List Exchange
-  pub asked : map (λ e. e.event) exchanges ≡ events_of lines
-  pub told : text ≡ text_of_replies only (map reading_of lines) exchanges
+  pub events : map (λ e. e.event) exchanges ≡ events_of lines
+  pub replies : text ≡ text_of_replies only (map reading_of lines) exchanges
   pub after : Known
   pub are_allowed : all_allowed exchanges (Ok (opening limit order superblocks tenants)) ≡ Ok after

@@ -7,7 +7,7 @@ use Rattle.std.proofs.lemmas.Bool.{eqb-true, eqb-false, cases_lt}
 use Rattle.std.proofs.lemmas.List.{get_or-replicate, get_or_past, length-replicate}
 use Rattle.model_core.specs.Machine.{slot_of}
 use Rattle.promise_core.specs.Bytes.{Cell, without}
-use Rattle.judge_core.proofs.ComputedTests.{same_at}
+use Rattle.known_holdings.proofs.ComputedTests.{same_at}
 use Rattle.shadow_memory.specs.Left.{LeftSlot, Left, slot_places, left_in, slots_in, left_slots, Becomes, left_at}
 use Rattle.shadow_memory.specs.Inside.{IsNear, IsSlotWhole, AreSlots}
 use Rattle.shadow_memory.proofs.StepsByPlace.{none_left}

@@ -4,7 +4,7 @@ use Rattle.std.specs.Prelude.{if◌then◌else◌, ◌&&◌}
 use Rattle.std.proofs.lemmas.Bool.{cases_lt}
 use Rattle.std.proofs.lemmas.Bool.Decides.{nat_tests}
 use Rattle.std.proofs.lemmas.List.{append-nil, get_or_append_left, get_or-append_right, get_or-replicate, get_or_past, length-append, length-replicate, length-map}
-use Rattle.judge_core.proofs.ComputedTests.{same_at}
+use Rattle.known_holdings.proofs.ComputedTests.{same_at}
 use Rattle.shadow_memory.specs.declared.kept.KeptByte.{KeptByte}
 use Rattle.shadow_memory.specs.declared.kept.KeptByte.TheVariants as Kept
 use Rattle.shadow_memory.specs.Inside.{CellStep, padded, shown_kept, within}

@@ -1,7 +1,7 @@
 -- Which left bytes a summary allows, and how a change affects the stored bytes of a range.
 use Rattle.std.specs.Prelude.{◌≡◌, ℕ, ◌+◌, ◌/◌, ◌<◌, ◌≤◌, true, false, List, Option, Some, None, slice_index_or}
 use Rattle.promise_core.specs.Bytes.{Holder, Cell}
-use Rattle.judge_core.specs.Holders.{shown_holder}
+use Rattle.known_holdings.specs.Holders.{shown_holder}
 use Rattle.shadow_memory.specs.declared.kept.KeptByte.{KeptByte}
 use Rattle.shadow_memory.specs.declared.summary.Summary.{Summary}
 use Rattle.shadow_memory.specs.declared.summary.Owners.{Owners}

@@ -2,14 +2,14 @@
 
 ghost use Rattle.std.specs.Prelude.{◌≡◌, ℕ, ◌+◌, ◌-◌, ◌^◌, ◌<◌, ◌≤◌, Bool, true, false, not, length, Option, None};
 ghost use Rattle.promise_core.specs.Bytes.{Cell, with_bytes};
-ghost use Rattle.judge_core.specs.Holders.{shown_holder};
+ghost use Rattle.known_holdings.specs.Holders.{shown_holder};
 ghost use Rattle.shadow_memory.specs.Inside.{CellStep, shown_kept, doubted_of, removed_of};
 ghost use Rattle.shadow_memory.specs.Summaries.{IsSummarizedBy, IsChanged};
 
 use crate::holder_predicates::{HolderPredicate, fails_all, passes_all};
 use crate::kept::KeptByte;
 use crate::summary::Summary;
-use judge_core::{LeftByte, RangeHolder};
+use known_holdings::{LeftByte, RangeHolder};
 
 /// A change of what was left at places.
 pub(crate) trait Change {

@@ -6,11 +6,11 @@ ghost use Rattle.model_core.specs.Machine.{in_block};
 ghost use Rattle.promise_core.specs.Holdings.{slab_around};
 ghost use Rattle.promise_core.specs.Bytes.{Holder, is_same, is_object};
 ghost use Rattle.promise_core.specs.State.{is_in_no_slab};
-ghost use Rattle.judge_core.specs.Holders.{shown_holder};
+ghost use Rattle.known_holdings.specs.Holders.{shown_holder};
 ghost use Rattle.shadow_memory.specs.Summaries.{MayOwn};
 
 use crate::summary::Owners;
-use judge_core::{FrameBlock, Held, HeldCache, RangeHolder};
+use known_holdings::{FrameBlock, Held, HeldCache, RangeHolder};
 use model_core::limits::FRAME_BYTES;
 
 /// A test of a holder.

@@ -1,10 +1,10 @@
 //! The stored form of a byte that was left at a place.
 
 ghost use Rattle.std.specs.Prelude.{◌≡◌, Some, option_map};
-ghost use Rattle.judge_core.specs.Holders.{shown_cell};
+ghost use Rattle.known_holdings.specs.Holders.{shown_cell};
 ghost use Rattle.shadow_memory.specs.Inside.{shown_kept};
 
-use judge_core::{LeftByte, RangeHolder};
+use known_holdings::{LeftByte, RangeHolder};
 use std::mem::size_of;
 
 /// What was left at a place, if anything was.

@@ -7,7 +7,7 @@ ghost use Rattle.model_core.specs.Machine.{in_block, slot_of};
 ghost use Rattle.promise_core.specs.Holdings.{KnownCache, slab_around};
 ghost use Rattle.promise_core.specs.Bytes.{Holder, is_object, is_same, with_bytes, doubted, without};
 ghost use Rattle.promise_core.specs.State.{with_object, is_in_no_slab};
-ghost use Rattle.judge_core.specs.Holders.{shown_holder, shown_cell};
+ghost use Rattle.known_holdings.specs.Holders.{shown_holder, shown_cell};
 ghost use Rattle.shadow_memory.specs.Left.{left_slots, left_at, has_place, Becomes};
 ghost use Rattle.shadow_memory.specs.Inside.{StaysNear, AreFrom, AreStepped, within};
 
@@ -16,7 +16,7 @@ use crate::holder_predicates::{Fails, IsInNoSlab, IsNotBeside, IsObject, IsOfCac
 use crate::kept::KeptByte;
 use crate::slot::SlotBytes;
 use crate::slots::{change_slots, drop_slot, kept_from, left_in, places_of};
-use judge_core::{FrameBlock, Held, LeftByte, RangeHolder};
+use known_holdings::{FrameBlock, Held, LeftByte, RangeHolder};
 use std::alloc::{AllocError, Global};
 use std::marker::Model;
 

@@ -4,13 +4,13 @@ ghost use Rattle.std.specs.Prelude.{◌≡◌, ℕ, ◌+◌, ◌^◌, ◌<◌, �
 ghost use Rattle.std.specs.Option.{option_copied};
 ghost use Rattle.promise_core.specs.Holdings.{Holdings};
 ghost use Rattle.promise_core.specs.Bytes.{may_all_be, may_be, known_fresh_byte};
-ghost use Rattle.judge_core.specs.Holders.{shown_holder, shown_cell};
+ghost use Rattle.known_holdings.specs.Holders.{shown_holder, shown_cell};
 ghost use Rattle.shadow_memory.specs.Left.{left_at, has_place};
 ghost use Rattle.shadow_memory.specs.Inside.{AreFrom, cache_of};
 
 use crate::kept::KeptByte;
 use crate::left::ShadowMemory;
-use judge_core::{Held, HeldCache, LeftByte, RangeHolder};
+use known_holdings::{Held, HeldCache, LeftByte, RangeHolder};
 
 impl ShadowMemory {
     /// Returns whether a read in this holder that begins at `place` may report these bytes. All of their places must be in slots

@@ -1,7 +1,7 @@
 //! What was left in a slot: for each place, a byte and the page block or object that left it, or nothing.
 
 ghost use Rattle.std.specs.Prelude.{◌≡◌, ℕ, ◌+◌, ◌-◌, ◌*◌, ◌^◌, ◌<◌, ◌≤◌, Option, None, IfOk, length, option_map, replicate, slice_index_or};
-ghost use Rattle.judge_core.specs.Holders.{shown_cell};
+ghost use Rattle.known_holdings.specs.Holders.{shown_cell};
 ghost use Rattle.shadow_memory.specs.declared.kept.KeptByte.TheVariants as Kept;
 ghost use Rattle.std.specs.Vec.{vec_capacity};
 ghost use Rattle.shadow_memory.specs.Inside.{padded, shown_kept, within};
@@ -10,7 +10,7 @@ use crate::change::Change;
 use crate::kept::KeptByte;
 use crate::ranges::{CHUNK, FRAME, change_range};
 use crate::summary::Summary;
-use judge_core::LeftByte;
+use known_holdings::LeftByte;
 use std::alloc::{AllocError, Global};
 use std::marker::Model;
 

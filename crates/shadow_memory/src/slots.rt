@@ -3,14 +3,14 @@
 ghost use Rattle.std.specs.Prelude.{◌≡◌, ◌^◌, ◌≤◌, ◌==◌, not, filter, option_map};
 ghost use Rattle.std.specs.List.{AllByRecursion};
 ghost use Rattle.model_core.specs.declared.limits.TheConstants.{MAX_ORDER};
-ghost use Rattle.judge_core.specs.Holders.{shown_cell};
+ghost use Rattle.known_holdings.specs.Holders.{shown_cell};
 ghost use Rattle.shadow_memory.specs.Left.{left_in, slot_places};
 ghost use Rattle.shadow_memory.specs.Inside.{IsSlotWhole, AreKeptFrom, AreStepped, within};
 
 use crate::change::Change;
 use crate::kept::KeptByte;
 use crate::slot::SlotBytes;
-use judge_core::LeftByte;
+use known_holdings::LeftByte;
 use model_core::limits::FRAME_BYTES;
 
 /// Returns the number of places in a slot of `2^order` frames.

@@ -2,10 +2,10 @@
 
 ghost use Rattle.std.specs.Prelude.{◌≡◌, ℕ, true, Option, slice_index_or, slice_set};
 ghost use Rattle.promise_core.specs.Bytes.{Holder, Cell};
-ghost use Rattle.judge_core.specs.Holders.{shown_holder};
+ghost use Rattle.known_holdings.specs.Holders.{shown_holder};
 ghost use Rattle.shadow_memory.specs.Summaries.{MayOwn, IsSummarizedBy, any_summary};
 
-use judge_core::RangeHolder;
+use known_holdings::RangeHolder;
 
 /// The holders whose bytes may have been left at some places.
 #[derive(Clone, Copy, Debug)]

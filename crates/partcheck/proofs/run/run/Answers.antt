@@ -1,9 +1,9 @@
 use Rattle.std.proofs.Common.{[], Ok, inl, inr, refl, ap, subst, ◌∙◌}
 use Rattle.std.proofs.lemmas.Result.{IfOk-from_err, IfOk-weaker}
-use Rattle.check_core.specs.declared.finding.Finding.{Finding}
-use Rattle.check_core.specs.Taken.{IsNoted}
-use Rattle.check_core.proofs.Ending.{ended_so, ran_out}
-use Rattle.check_core.proofs.ReadingLemmas.{gives_nothing}
+use Rattle.trace_check.specs.declared.finding.Finding.{Finding}
+use Rattle.trace_check.specs.Taken.{IsNoted}
+use Rattle.trace_check.proofs.Ending.{ended_so, ran_out}
+use Rattle.trace_check.proofs.ReadingLemmas.{gives_nothing}
 use Rattle.partcheck.specs.Checked.{IsFindingOf, opening_of}
 use Rattle.partcheck.proofs.FindingOfNewMachine.{finds, found_so, known_texts, still_shown}
 use Rattle.partcheck.proofs.run.run.Goals as goal
@@ -34,11 +34,11 @@ returns-clause-found g c =
     )
 
 pub returns-clause-known : goal.returns-clause-known
-returns-clause-known g c asked told asked_is told_is =
+returns-clause-known g c trace_text reply_text trace_is reply_is =
     let given = c.check-found.ensures.found in
     IfOk-weaker c.check-found.result _ _ (λ finding so. known_texts (IsFindingOf c.args.config finding) given.2 given.3
     (λ more later may might. finds c.kept_is_allowed.ensures c.broken_is_not_allowed.ensures c.args.config finding _ _ (so more later may might))
-    asked told asked_is told_is) (given.4 (opening_of c.args.config) c.in_ok-machine.ensures)
+    trace_text reply_text trace_is reply_is) (given.4 (opening_of c.args.config) c.in_ok-machine.ensures)
 
 pub returns-clause-end : goal.returns-clause-end
 returns-clause-end g c =

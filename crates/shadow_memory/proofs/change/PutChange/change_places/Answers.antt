@@ -1,6 +1,6 @@
 use Rattle.std.proofs.Common.{◌+◌, ◌-◌, get_or, ap, ◌∙◌, arith}
 use Rattle.std.specs.Prelude.{Some, true}
-use Rattle.judge_core.specs.Holders.{shown_holder}
+use Rattle.known_holdings.specs.Holders.{shown_holder}
 use Rattle.shadow_memory.proofs.RangeChanges.{put_before, put_more, put_behind}
 use Rattle.shadow_memory.proofs.change.PutChange.change_places.Goals as goal
 

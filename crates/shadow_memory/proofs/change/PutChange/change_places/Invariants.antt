@@ -1,5 +1,5 @@
 use Rattle.promise_core.specs.Bytes.{with_bytes}
-use Rattle.judge_core.specs.Holders.{shown_holder}
+use Rattle.known_holdings.specs.Holders.{shown_holder}
 use Rattle.shadow_memory.specs.Summaries.{IsChanged}
 use Rattle.shadow_memory.proofs.change.PutChange.change_places.Given as goal
 

@@ -1,6 +1,6 @@
 use Rattle.std.proofs.Common.{◌≡◌, ◌+◌, drop}
 use Rattle.promise_core.specs.Bytes.{may_all_be}
-use Rattle.judge_core.specs.Holders.{shown_holder}
+use Rattle.known_holdings.specs.Holders.{shown_holder}
 use Rattle.shadow_memory.specs.Left.{left_at}
 use Rattle.shadow_memory.proofs.left.ShadowMemory.may_read_all.Given as goal
 

@@ -2,7 +2,7 @@ use Rattle.std.proofs.Common.{◌≡◌, ℕ, ◌+◌, ◌<◌, true, List, leng
 use Rattle.std.specs.Vec.{with_items}
 use Rattle.std.proofs.lemmas.List.{with_items_is}
 use Rattle.promise_core.specs.Bytes.{with_bytes}
-use Rattle.judge_core.specs.Holders.{shown_holder}
+use Rattle.known_holdings.specs.Holders.{shown_holder}
 use Rattle.shadow_memory.specs.Left.{LeftSlot, Left, left_slots, has_place, Becomes}
 use Rattle.shadow_memory.specs.Inside.{AreSlots, AreStepped, within}
 use Rattle.shadow_memory.proofs.StepsByPlace.{slots_after}

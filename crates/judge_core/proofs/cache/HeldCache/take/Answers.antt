@@ -1,4 +1,0 @@
-use Rattle.judge_core.proofs.cache.HeldCache.take.Goals as goal
-
-pub returns-clause-taken : goal.returns-clause-taken
-returns-clause-taken c = rw (c.in_ok-put.ensures.put, ← c.self.view_is)

@@ -1,4 +1,0 @@
-use Rattle.judge_core.proofs.held.Held.take_back.Goals as goal
-
-pub returns : goal.returns
-returns c = rw (c.remove.ensures.value, ← c.self.view_is)

@@ -1,0 +1,7 @@
+use Rattle.std.proofs.Common.{◌≡◌, map, take, drop, ◌++◌}
+use Rattle.model_core.specs.Owners.{is_owner}
+use Rattle.world_core.specs.World.{given_up}
+use Rattle.reply_judge.proofs.owners.give_up_slot.Given as goal
+
+abbrev pub invariant-loop-owner : goal.invariant-loop-owner
+invariant-loop-owner l = l.owners ≡ map (given_up (is_owner l.t l.slot)) (take l.owner-index l.fn.owners) ++ drop l.owner-index l.fn.owners

@@ -1,0 +1,91 @@
+//! What is known of a machine.
+
+ghost use Rattle.std.specs.Prelude.{◌≡◌, ◌≤◌, IfOk, None, find, length, option_map, replicate, slice_get};
+ghost use Rattle.model_core.specs.declared.limits.TheConstants.{MAX_CACHES, MAX_ORDER, MAX_SUPERBLOCKS};
+ghost use Rattle.model_core.specs.Operations.{overlaps};
+ghost use Rattle.std.specs.Option.{option_map_or};
+ghost use Rattle.promise_core.specs.State.{opening};
+ghost use Rattle.reply_judge.specs.KnownMachine.{ShowsKnown};
+
+use crate::tenant::Tenant;
+use known_holdings::FrameBlock;
+use model_core::owner::Owner;
+use std::alloc::{AllocError, Global};
+use std::marker::Model;
+
+/// What replies reported about a machine: the owner of each superblock, and what each tenant has.
+#[derive(Debug, Drop)]
+pub struct KnownMachine {
+    pub(crate) order: u8,
+    /// Indexed by superblock. `None` if nobody owns the superblock.
+    pub(crate) owners: Vec<Option<Owner>>,
+    /// Indexed by the tenant's number.
+    pub(crate) tenants: Vec<Tenant>,
+}
+
+impl Model for KnownMachine {
+    ghost use Rattle.reply_judge.specs.KnownMachine.{SeenMachine, FitsLimits};
+
+    ghost Value = { SeenMachine };
+
+    ghost view = { λ m. record { order = m.order; owners = m.owners.items; tenants = m.tenants.items } };
+
+    ghost invariant = { λ m. FitsLimits (record { order = m.order; owners = m.owners.items; tenants = m.tenants.items }) };
+}
+
+impl KnownMachine {
+    /// Returns a machine with this number of superblocks of `2^order` frames, which nobody owns, and this number of tenants,
+    /// which have nothing. Fails if memory runs out.
+    pub fn new(
+        alloc: Global,
+        order: u8,
+        superblocks: u16,
+        tenants: u8,
+    ) -> Result<KnownMachine, AllocError>
+        requires order { order ≤ MAX_ORDER }
+        requires superblocks { superblocks ≤ MAX_SUPERBLOCKS }
+        ensures { IfOk result (λ machine. ShowsKnown machine (opening MAX_CACHES order superblocks tenants)) }
+    {
+        let owners = vec![in alloc; None; superblocks as usize]?;
+        let mut all = Vec::new(alloc);
+        for _tenant in 0..tenants {
+            all.push(Tenant::new(alloc, order, superblocks)?)?;
+        }
+        Ok(KnownMachine {
+            order,
+            owners,
+            tenants: all,
+        })
+    }
+
+    /// Returns the order of a slot, which has `2^order` frames.
+    pub fn order(&self) -> u8
+        ensures value { result ≡ self.now.order }
+        ensures most { result ≤ MAX_ORDER }
+    {
+        self.order
+    }
+
+    /// Returns the number of superblocks.
+    pub fn superblocks(&self) -> usize
+        ensures value { result ≡ length self.now.owners }
+        ensures most { result ≤ MAX_SUPERBLOCKS }
+    {
+        self.owners.len()
+    }
+
+    /// Returns the first live page block of the tenant that shares a frame with the block. Returns `None` if there is none, or if
+    /// the tenant does not exist.
+    pub fn page_over(&self, tenant: u32, block: &FrameBlock) -> Option<FrameBlock>
+        ensures { result ≡ option_map_or (λ y. find (overlaps block.now) y.has.pages) (slice_get self.now.tenants tenant) None }
+    {
+        self.tenants.get(tenant as usize)?.page_over(block)
+    }
+
+    /// Returns the number of caches of the tenant, or `None` if the tenant does not exist.
+    pub fn caches_of(&self, tenant: u32) -> Option<usize>
+        ensures { result ≡ option_map (λ y. length y.has.caches) (slice_get self.now.tenants tenant) }
+    {
+        Some(self.tenants.get(tenant as usize)?.caches())
+    }
+}

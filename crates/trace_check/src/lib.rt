@@ -1,0 +1,33 @@
+//! Checks the replies to a trace. `specs/` defines the finding for the texts of a trace and of its replies. `check` reads one
+//! line of the trace at a time, and then its reply, and returns the finding.
+//!
+//! Reading is the inverse of writing: the text that is written for a reply is read as the same reply. Any other text is not read
+//! as a reply.
+#![tactic(auto)]
+
+mod answer;
+mod answers;
+mod checking;
+mod events;
+mod finding;
+mod form;
+mod gathered;
+mod gathering;
+mod hexed;
+pub mod laws;
+mod lines;
+mod reader;
+mod rows;
+mod shown;
+mod table;
+mod taken;
+mod verdicts;
+
+pub use answer::read_answer;
+pub use checking::check;
+pub use finding::{Breach, Finding, Unchecked};
+pub use gathered::Gathered;
+pub use reader::LineReader;
+pub use shown::{MAX_PART_BYTES, MAX_TEXT_BYTES, Shown};
+pub use table::read_table;
+pub use taken::{TakenFrame, taken_frame};
