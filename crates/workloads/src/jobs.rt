@@ -6,18 +6,18 @@ use crate::digest::Digest;
 use crate::load::{BLOCKS, BYTES, CROWDED, GUESTS, Load, MIXED, OBJECTS};
 use crate::maker::Maker;
 use crate::numbers::Numbers;
-use check_core::{Finding, LineReader, Shown, Unchecked, check};
 use frame_picture::history::History;
-use judge::KnownMachine;
 use kernel_core::{Config, Kernel};
 use own_trace::keep;
 use picture_svg::picture::Picture;
 use replay_core::{
     Drain, NoNotes, Notes, Pending, ReaderFeed, ReplayError, WriterDrain, replay_noted,
 };
+use reply_judge::KnownMachine;
 use run_notes::{MAX_NUMBER, RunNotes};
 use std::alloc::{AllocError, Global};
 use std::io::{BufWriter, Read, Write};
+use trace_check::{Finding, LineReader, Shown, Unchecked, check};
 use words_core::{Answer, Event, LineFault, Refusal};
 
 /// The capacity of a trace, in bytes per line.
