@@ -22,8 +22,8 @@ pub struct Watched {
 
 impl Watched {
     /// Runs the quick requests at the front of a piece, and returns the rest of the piece. A quick request is a request that
-    /// `quick_core` reads. Its line ends in LF, or in CR LF if `RETURNS` is true.
-    fn watch_requests<'a, const RETURNS: bool>(
+    /// `quick_core` reads. Its line ends in LF, or in CR LF if `CRLF` is true.
+    fn watch_requests<'a, const CRLF: bool>(
         &mut self,
         piece: &'a [u8],
         kernel: &mut Kernel,
@@ -36,7 +36,7 @@ impl Watched {
         // One buffer for the bytes of a write, for all lines.
         let mut buffer = [0; MAX_BYTES];
         let mut rest = piece;
-        'lines: while let Some(line) = read_ended_request::<RETURNS>(rest, &mut buffer) {
+        'lines: while let Some(line) = read_ended_request::<CRLF>(rest, &mut buffer) {
             let len = line.len;
             if let Some((t, answer)) = kernel.ask(line.tenant, line.request) {
                 self.note_refusal(Addressee::Tenant(t), answer);

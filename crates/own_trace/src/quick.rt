@@ -23,8 +23,8 @@ use replay_core::{Drain, Stopped};
 use words_core::Request;
 
 /// Runs the quick requests at the front of a piece, pushes the lines of the tenant's own requests, and returns the rest of the
-/// piece. The lines end in LF, or in CR LF if `RETURNS`.
-pub(crate) fn keep_ended_lines<'a, const RETURNS: bool, D: Drain>(
+/// piece. The lines end in LF, or in CR LF if `CRLF`.
+pub(crate) fn keep_ended_lines<'a, const CRLF: bool, D: Drain>(
     piece: &'a [u8],
     kernel: &mut Kernel,
     drain: &mut D,
@@ -41,9 +41,9 @@ pub(crate) fn keep_ended_lines<'a, const RETURNS: bool, D: Drain>(
     // The bytes of a write: one buffer for all lines.
     let mut bytes = [0; MAX_BYTES];
     let mut rest = piece;
-    'lines: while let Some(line) = read_ended_request::<RETURNS>(rest, &mut bytes) {
+    'lines: while let Some(line) = read_ended_request::<CRLF>(rest, &mut bytes) {
         let len = line.len;
-        keep_request::<RETURNS, D>(
+        keep_request::<CRLF, D>(
             &rest[..len - 1],
             line.tenant,
             line.request,
@@ -58,8 +58,8 @@ pub(crate) fn keep_ended_lines<'a, const RETURNS: bool, D: Drain>(
 
 /// Runs the request of a line. If the line is the tenant's own, pushes it and a line feed.
 ///
-/// This function and [`run_request`] take `RETURNS`, which they do not use, so that each instance has one caller and is inlined.
-fn keep_request<const RETURNS: bool, D: Drain>(
+/// This function and [`run_request`] take `CRLF`, which they do not use, so that each instance has one caller and is inlined.
+fn keep_request<const CRLF: bool, D: Drain>(
     line: &[u8],
     asked: u32,
     request: Request<'_>,
@@ -74,7 +74,7 @@ fn keep_request<const RETURNS: bool, D: Drain>(
         → HasDone keeps (own, kernel.old) line.now (D.contents drain.old) (D.contents drain.new) result (own, kernel.new) }
     ensures failed { D.has_failed drain.new ≡ is_err result }
 {
-    if !run_request::<RETURNS>(asked, request, kernel, tenant) {
+    if !run_request::<CRLF>(asked, request, kernel, tenant) {
         return Ok(());
     }
     push_line(line, drain)
@@ -82,7 +82,7 @@ fn keep_request<const RETURNS: bool, D: Drain>(
 
 /// Runs a request, and returns whether it is in the tenant's own list. Every request of the tenant is in the list, whatever the
 /// answer was.
-fn run_request<const RETURNS: bool>(
+fn run_request<const CRLF: bool>(
     asked: u32,
     request: Request<'_>,
     kernel: &mut Kernel,

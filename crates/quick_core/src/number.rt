@@ -55,14 +55,14 @@ pub struct LastNumber {
 }
 
 /// Reads a number of at most [`MAX_READ_DIGITS`] digits from index `from` on, if the end of the line follows it: LF, or CR LF if
-/// `RETURNS`. Returns `None` otherwise.
+/// `CRLF`. Returns `None` otherwise.
 #[inline(always)]
-pub fn last_number<const RETURNS: bool>(bytes: &[u8], from: usize) -> Option<LastNumber>
+pub fn last_number<const CRLF: bool>(bytes: &[u8], from: usize) -> Option<LastNumber>
     requires { from + MAX_READ_DIGITS + 1 < length bytes.now }
     ensures { IfSome result (λ number. IsLastNumber bytes.now from number.value number.len) }
 {
     let number = number_at(bytes, from, MAX_READ_DIGITS)?;
-    let len = line_len::<RETURNS>(bytes, number.end)?;
+    let len = line_len::<CRLF>(bytes, number.end)?;
     Some(LastNumber {
         value: number.value,
         len,

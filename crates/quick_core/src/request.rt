@@ -56,9 +56,9 @@ pub fn read_request<'a>(bytes: &[u8], buffer: &'a mut [u8; MAX_BYTES]) -> Option
     read_ended_request::<LF>(bytes, buffer)
 }
 
-/// Reads a line as [`read_request`] does, but the line ends in CR LF if `RETURNS`, and otherwise in LF.
+/// Reads a line as [`read_request`] does, but the line ends in CR LF if `CRLF`, and otherwise in LF.
 #[inline(always)]
-pub fn read_ended_request<'a, const RETURNS: bool>(
+pub fn read_ended_request<'a, const CRLF: bool>(
     bytes: &[u8],
     buffer: &'a mut [u8; MAX_BYTES],
 ) -> Option<RequestLine<'a>>
@@ -66,7 +66,7 @@ pub fn read_ended_request<'a, const RETURNS: bool>(
     ensures askable { IfSome result (λ line. IsAskable line.request) }
 {
     let tenant = read_tenant(bytes)?;
-    read_known_request::<RETURNS>(bytes, tenant, buffer)
+    read_known_request::<CRLF>(bytes, tenant, buffer)
 }
 
 /// Returns false if the first byte shows that no request begins here. A request begins with the number of a tenant.
@@ -91,7 +91,7 @@ pub fn read_tenant(bytes: &[u8]) -> Option<Number>
 
 /// Reads the rest of a line whose tenant was already read, as [`read_ended_request`] does.
 #[inline(always)]
-pub fn read_known_request<'a, const RETURNS: bool>(
+pub fn read_known_request<'a, const CRLF: bool>(
     bytes: &[u8],
     tenant: Number,
     buffer: &'a mut [u8; MAX_BYTES],
@@ -103,12 +103,12 @@ pub fn read_known_request<'a, const RETURNS: bool>(
     ensures askable { IfSome result (λ line. IsAskable line.request) }
 {
     match four_at(bytes, tenant.end + 1) {
-        ALLO => alloc_line::<RETURNS>(bytes, tenant),
-        FREE => free_line::<RETURNS>(bytes, tenant),
-        TAKE => take_line::<RETURNS>(bytes, tenant),
-        GIVE => give_line::<RETURNS>(bytes, tenant),
-        READ => read_line::<RETURNS>(bytes, tenant),
-        WRIT => write_line::<RETURNS>(bytes, tenant, buffer),
+        ALLO => alloc_line::<CRLF>(bytes, tenant),
+        FREE => free_line::<CRLF>(bytes, tenant),
+        TAKE => take_line::<CRLF>(bytes, tenant),
+        GIVE => give_line::<CRLF>(bytes, tenant),
+        READ => read_line::<CRLF>(bytes, tenant),
+        WRIT => write_line::<CRLF>(bytes, tenant, buffer),
         _ => None,
     }
 }
@@ -123,7 +123,7 @@ fn four_at(bytes: &[u8], at: usize) -> u32
 }
 
 #[inline(always)]
-fn alloc_line<const RETURNS: bool>(bytes: &[u8], tenant: Number) -> Option<RequestLine<'static>>
+fn alloc_line<const CRLF: bool>(bytes: &[u8], tenant: Number) -> Option<RequestLine<'static>>
     requires size { WINDOW ≤ length bytes.now }
     requires begins { BeginsLine bytes.now tenant (codes "allo") }
     ensures reads { IfSome result (λ line. ReadsAs bytes.now line.tenant (command_of line.request) line.len) }
@@ -135,7 +135,7 @@ fn alloc_line<const RETURNS: bool>(bytes: &[u8], tenant: Number) -> Option<Reque
     if bytes[at] != b'c' || bytes[at + 1] != b' ' {
         return None;
     }
-    let order = last_number::<RETURNS>(bytes, at + 2)?;
+    let order = last_number::<CRLF>(bytes, at + 2)?;
     Some(RequestLine {
         tenant: tenant.value,
         request: Request::Alloc { order: order.value },
@@ -144,7 +144,7 @@ fn alloc_line<const RETURNS: bool>(bytes: &[u8], tenant: Number) -> Option<Reque
 }
 
 #[inline(always)]
-fn free_line<const RETURNS: bool>(bytes: &[u8], tenant: Number) -> Option<RequestLine<'static>>
+fn free_line<const CRLF: bool>(bytes: &[u8], tenant: Number) -> Option<RequestLine<'static>>
     requires size { WINDOW ≤ length bytes.now }
     requires begins { BeginsLine bytes.now tenant (codes "free") }
     ensures reads { IfSome result (λ line. ReadsAs bytes.now line.tenant (command_of line.request) line.len) }
@@ -156,7 +156,7 @@ fn free_line<const RETURNS: bool>(bytes: &[u8], tenant: Number) -> Option<Reques
     if bytes[at] != b' ' {
         return None;
     }
-    let frame = last_number::<RETURNS>(bytes, at + 1)?;
+    let frame = last_number::<CRLF>(bytes, at + 1)?;
     Some(RequestLine {
         tenant: tenant.value,
         request: Request::Free { frame: frame.value },
@@ -165,7 +165,7 @@ fn free_line<const RETURNS: bool>(bytes: &[u8], tenant: Number) -> Option<Reques
 }
 
 #[inline(always)]
-fn take_line<const RETURNS: bool>(bytes: &[u8], tenant: Number) -> Option<RequestLine<'static>>
+fn take_line<const CRLF: bool>(bytes: &[u8], tenant: Number) -> Option<RequestLine<'static>>
     requires size { WINDOW ≤ length bytes.now }
     requires begins { BeginsLine bytes.now tenant (codes "take") }
     ensures reads { IfSome result (λ line. ReadsAs bytes.now line.tenant (command_of line.request) line.len) }
@@ -177,7 +177,7 @@ fn take_line<const RETURNS: bool>(bytes: &[u8], tenant: Number) -> Option<Reques
     if bytes[at] != b' ' {
         return None;
     }
-    let cache = last_number::<RETURNS>(bytes, at + 1)?;
+    let cache = last_number::<CRLF>(bytes, at + 1)?;
     Some(RequestLine {
         tenant: tenant.value,
         request: Request::Take { cache: cache.value },
@@ -186,7 +186,7 @@ fn take_line<const RETURNS: bool>(bytes: &[u8], tenant: Number) -> Option<Reques
 }
 
 #[inline(always)]
-fn give_line<const RETURNS: bool>(bytes: &[u8], tenant: Number) -> Option<RequestLine<'static>>
+fn give_line<const CRLF: bool>(bytes: &[u8], tenant: Number) -> Option<RequestLine<'static>>
     requires size { WINDOW ≤ length bytes.now }
     requires begins { BeginsLine bytes.now tenant (codes "give") }
     ensures reads { IfSome result (λ line. ReadsAs bytes.now line.tenant (command_of line.request) line.len) }
@@ -202,7 +202,7 @@ fn give_line<const RETURNS: bool>(bytes: &[u8], tenant: Number) -> Option<Reques
     if bytes[cache.end] != b' ' {
         return None;
     }
-    let place = last_number::<RETURNS>(bytes, cache.end + 1)?;
+    let place = last_number::<CRLF>(bytes, cache.end + 1)?;
     Some(RequestLine {
         tenant: tenant.value,
         request: Request::Give {
@@ -214,7 +214,7 @@ fn give_line<const RETURNS: bool>(bytes: &[u8], tenant: Number) -> Option<Reques
 }
 
 #[inline(always)]
-fn read_line<const RETURNS: bool>(bytes: &[u8], tenant: Number) -> Option<RequestLine<'static>>
+fn read_line<const CRLF: bool>(bytes: &[u8], tenant: Number) -> Option<RequestLine<'static>>
     requires size { WINDOW ≤ length bytes.now }
     requires begins { BeginsLine bytes.now tenant (codes "read") }
     ensures reads { IfSome result (λ line. ReadsAs bytes.now line.tenant (command_of line.request) line.len) }
@@ -230,7 +230,7 @@ fn read_line<const RETURNS: bool>(bytes: &[u8], tenant: Number) -> Option<Reques
     if bytes[place.end] != b' ' {
         return None;
     }
-    let len = last_number::<RETURNS>(bytes, place.end + 1)?;
+    let len = last_number::<CRLF>(bytes, place.end + 1)?;
     Some(RequestLine {
         tenant: tenant.value,
         request: Request::Read {
@@ -243,7 +243,7 @@ fn read_line<const RETURNS: bool>(bytes: &[u8], tenant: Number) -> Option<Reques
 
 /// Reads a `write` and decodes its bytes into `buffer`.
 #[inline(always)]
-fn write_line<'a, const RETURNS: bool>(
+fn write_line<'a, const CRLF: bool>(
     bytes: &[u8],
     tenant: Number,
     buffer: &'a mut [u8; MAX_BYTES],
@@ -266,10 +266,10 @@ fn write_line<'a, const RETURNS: bool>(
     let from = place.end + 1;
     let count = decode_at(bytes, from, buffer);
     let end = from + 2 * count;
-    if count == 0 || end + usize::from(RETURNS) >= bytes.len() {
+    if count == 0 || end + usize::from(CRLF) >= bytes.len() {
         return None;
     }
-    let len = line_len::<RETURNS>(bytes, end)?;
+    let len = line_len::<CRLF>(bytes, end)?;
     Some(RequestLine {
         tenant: tenant.value,
         request: Request::Write {

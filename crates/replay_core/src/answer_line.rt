@@ -34,10 +34,10 @@ const RARE: usize = 6;
 
 impl<N: Notes> Run<N> {
     /// Runs the quick requests of existing, shown tenants at the front of a piece, while the drain has space for an answer.
-    /// Returns the rest of the piece. The lines end in LF, or in CR LF if `RETURNS` is true.
+    /// Returns the rest of the piece. The lines end in LF, or in CR LF if `CRLF` is true.
     // Kept out of line, which gives its loop all registers.
     #[inline(never)]
-    pub fn run_in_place<'a, const RETURNS: bool, D: Drain>(
+    pub fn run_in_place<'a, const CRLF: bool, D: Drain>(
         &mut self,
         piece: &'a [u8],
         kernel: &mut Kernel,
@@ -54,7 +54,7 @@ impl<N: Notes> Run<N> {
         let mut buffer = [0; MAX_BYTES];
         let mut rest = piece;
         'lines: while drain.has_space() {
-            let Some(len) = self.answer_line::<RETURNS, D>(rest, &mut buffer, kernel, drain) else {
+            let Some(len) = self.answer_line::<CRLF, D>(rest, &mut buffer, kernel, drain) else {
                 return rest;
             };
             rest = &rest[len..];
@@ -65,7 +65,7 @@ impl<N: Notes> Run<N> {
     /// Runs and answers the line at the front of these bytes and returns its length, including the line end. Returns `None` and
     /// does nothing if the line is not a quick request of an existing, shown tenant.
     #[inline(always)]
-    fn answer_line<const RETURNS: bool, D: Drain>(
+    fn answer_line<const CRLF: bool, D: Drain>(
         &mut self,
         bytes: &[u8],
         buffer: &mut [u8; MAX_BYTES],
@@ -82,14 +82,14 @@ impl<N: Notes> Run<N> {
         if !self.replies.is_shown(Addressee::Tenant(tenant)) {
             return None;
         }
-        let line = read_known_request::<RETURNS>(bytes, number, buffer)?;
-        self.answer_request::<RETURNS, D>(tenant, line.request, kernel, drain);
+        let line = read_known_request::<CRLF>(bytes, number, buffer)?;
+        self.answer_request::<CRLF, D>(tenant, line.request, kernel, drain);
         Some(line.len)
     }
 
     /// Runs a request of an existing, shown tenant, counts its line, and writes the answer straight into the drain's buffer.
     #[inline(always)]
-    fn answer_request<const RETURNS: bool, D: Drain>(
+    fn answer_request<const CRLF: bool, D: Drain>(
         &mut self,
         tenant: u8,
         request: Request<'_>,
@@ -107,16 +107,16 @@ impl<N: Notes> Run<N> {
     {
         match request {
             Request::Alloc { order } => {
-                self.answer_as::<ALLOC, RETURNS, D>(tenant, Request::Alloc { order }, kernel, drain)
+                self.answer_as::<ALLOC, CRLF, D>(tenant, Request::Alloc { order }, kernel, drain)
             }
             Request::Free { frame } => {
-                self.answer_as::<FREE, RETURNS, D>(tenant, Request::Free { frame }, kernel, drain)
+                self.answer_as::<FREE, CRLF, D>(tenant, Request::Free { frame }, kernel, drain)
             }
             Request::Take { cache } => {
-                self.answer_as::<TAKE, RETURNS, D>(tenant, Request::Take { cache }, kernel, drain)
+                self.answer_as::<TAKE, CRLF, D>(tenant, Request::Take { cache }, kernel, drain)
             }
             Request::Give { cache, place } => {
-                self.answer_as::<GIVE, RETURNS, D>(
+                self.answer_as::<GIVE, CRLF, D>(
                     tenant,
                     Request::Give { cache, place },
                     kernel,
@@ -124,15 +124,10 @@ impl<N: Notes> Run<N> {
                 )
             }
             Request::Read { place, len } => {
-                self.answer_as::<READ, RETURNS, D>(
-                    tenant,
-                    Request::Read { place, len },
-                    kernel,
-                    drain,
-                )
+                self.answer_as::<READ, CRLF, D>(tenant, Request::Read { place, len }, kernel, drain)
             }
             Request::Write { place, bytes } => {
-                self.answer_as::<WRITE, RETURNS, D>(
+                self.answer_as::<WRITE, CRLF, D>(
                     tenant,
                     Request::Write { place, bytes },
                     kernel,
@@ -147,7 +142,7 @@ impl<N: Notes> Run<N> {
     /// has its own instance, with one caller. A function with one caller is always inlined, so the code that writes the answer
     /// knows which answers are possible.
     #[inline]
-    fn answer_as<const COMMAND: usize, const RETURNS: bool, D: Drain>(
+    fn answer_as<const COMMAND: usize, const CRLF: bool, D: Drain>(
         &mut self,
         tenant: u8,
         request: Request<'_>,

@@ -22,7 +22,7 @@ use words_core::{Addressee, Answer, Refusal, Request};
 impl<N: Notes> Run<N> {
     /// Runs the quick lines at the front of a piece, both those that are answered in the drain's buffer and those between them
     /// that are not. Returns the rest of the piece.
-    pub fn run_ended_lines<'a, const RETURNS: bool, D: Drain>(
+    pub fn run_ended_lines<'a, const CRLF: bool, D: Drain>(
         &mut self,
         piece: &'a [u8],
         kernel: &mut Kernel,
@@ -39,16 +39,11 @@ impl<N: Notes> Run<N> {
     {
         // The bytes of a write: one buffer for all lines.
         let mut buffer = [0; MAX_BYTES];
-        let mut rest = self.run_in_place::<RETURNS, D>(piece, kernel, drain);
-        'lines: while let Some(line) = self.read_left::<RETURNS, D>(
-            rest,
-            &mut buffer,
-            kernel,
-            drain,
-        ) {
+        let mut rest = self.run_in_place::<CRLF, D>(piece, kernel, drain);
+        'lines: while let Some(line) = self.read_left::<CRLF, D>(rest, &mut buffer, kernel, drain) {
             let len = line.len;
             self.answer_apart(line.tenant, line.request, kernel, drain)?;
-            rest = self.run_in_place::<RETURNS, D>(&rest[len..], kernel, drain);
+            rest = self.run_in_place::<CRLF, D>(&rest[len..], kernel, drain);
         }
         if rest.len() < WINDOW {
             return self.run_last_lines(rest, kernel, drain);
@@ -59,7 +54,7 @@ impl<N: Notes> Run<N> {
     /// Reads the first line that [`Run::run_in_place`] left, if it is a quick line. A line that `run_in_place` has tried to read
     /// is not read again.
     #[inline(always)]
-    fn read_left<'a, const RETURNS: bool, D: Drain>(
+    fn read_left<'a, const CRLF: bool, D: Drain>(
         &self,
         bytes: &[u8],
         buffer: &'a mut [u8; MAX_BYTES],
@@ -72,7 +67,7 @@ impl<N: Notes> Run<N> {
         let number = read_tenant(bytes)?;
         match kernel.tenant(number.value) {
             Some(t) if self.replies.is_shown(Addressee::Tenant(t)) && drain.has_space() => None,
-            _ => read_known_request::<RETURNS>(bytes, number, buffer),
+            _ => read_known_request::<CRLF>(bytes, number, buffer),
         }
     }
 
@@ -151,9 +146,9 @@ fn read_alone<'a>(line: &[u8], buffer: &'a mut [u8; MAX_BYTES]) -> Option<Reques
     }
 }
 
-/// Does what [`read_alone`] does, for a line that ends in LF, or in CR LF if `RETURNS`. Copies the line and an LF to the front of
+/// Does what [`read_alone`] does, for a line that ends in LF, or in CR LF if `CRLF`. Copies the line and an LF to the front of
 /// `WINDOW` bytes and reads it there.
-fn read_in_window<'a, const RETURNS: bool>(
+fn read_in_window<'a, const CRLF: bool>(
     line: &[u8],
     buffer: &'a mut [u8; MAX_BYTES],
 ) -> Option<RequestLine<'a>>
@@ -166,7 +161,7 @@ fn read_in_window<'a, const RETURNS: bool>(
     let mut window = [0; WINDOW];
     window[..line.len()].copy_from_slice(line);
     window[line.len()] = b'\n';
-    let read = read_ended_request::<RETURNS>(&window, buffer)?;
+    let read = read_ended_request::<CRLF>(&window, buffer)?;
     if read.len != line.len() + 1 {
         return None;
     }
