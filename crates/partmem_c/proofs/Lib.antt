@@ -4,7 +4,7 @@ mod FreeLemmas
 mod LendLemmas
 mod HolderLemmas
 mod RawBoxValues
-mod SlotSteps
+mod KernelCellSteps
 pub mod TextLemmas
 pub mod CallLemmas
 pub mod ActionLemmas

@@ -96,7 +96,7 @@ same_order = refl
 
 -- the storage of a booted machine, whose kernel is `small`
 abbrev booted : the_row.Denot
-booted = record { is_booted = true; slot = record { at = block_ptr 1 0; held = Some small }; agrees = refl }
+booted = record { is_booted = true; cell = record { at = block_ptr 1 0; held = Some small }; agrees = refl }
 
 MayChangeThreads-met : MayChangeThreads → Keyless (the_row.own_val booted [])
 MayChangeThreads-met law = law.owned booted []

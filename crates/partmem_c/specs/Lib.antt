@@ -1,4 +1,4 @@
-pub mod Slots
+pub mod KernelCells
 pub mod Lines
 pub mod Events
 pub mod Owners

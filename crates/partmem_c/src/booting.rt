@@ -34,14 +34,14 @@ pub extern "C" fn partmem_boot_kernel(
     machine: &mut MachineStorage,
     config: &MachineConfig,
 ) -> u32
-    ensures has_machine { (result ≡ HAS_MACHINE) ↔ IsSome machine.old.slot.held }
-    ensures bad_config { (result ≡ BAD_CONFIG) ↔ ((machine.old.slot.held ≡ None) × (is_bootable (config_of config.now) ≡ false)) }
+    ensures has_machine { (result ≡ HAS_MACHINE) ↔ IsSome machine.old.cell.held }
+    ensures bad_config { (result ≡ BAD_CONFIG) ↔ ((machine.old.cell.held ≡ None) × (is_bootable (config_of config.now) ≡ false)) }
     ensures no_memory { result ≢ DONE → result ≢ HAS_MACHINE → result ≢ BAD_CONFIG → result ≡ NO_MEMORY }
     ensures done { result ≡ DONE
-        → machine.new.slot.held ≡ Some (opening_content config.now.order config.now.superblocks config.now.tenants) }
+        → machine.new.cell.held ≡ Some (opening_content config.now.order config.now.superblocks config.now.tenants) }
     ensures shows { result ≡ DONE
-        → IfSome machine.new.slot.held (λ k. Shows k (opening_world config.now.superblocks config.now.tenants)) }
-    ensures not_done { result ≢ DONE → machine.new.slot.held ≡ machine.old.slot.held }
+        → IfSome machine.new.cell.held (λ k. Shows k (opening_world config.now.superblocks config.now.tenants)) }
+    ensures not_done { result ≢ DONE → machine.new.cell.held ≡ machine.old.cell.held }
 {
     if machine.is_booted() {
         return HAS_MACHINE;
@@ -67,8 +67,8 @@ pub extern "C" fn partmem_boot_kernel(
 /// there. Fails with `NO_MACHINE`.
 #[unsafe(no_mangle)]
 pub extern "C" fn partmem_end_kernel(alloc: Global, machine: &mut MachineStorage) -> u32
-    ensures status { result ≡ machine_status machine.old.slot.held }
-    ensures vacant { machine.new.slot.held ≡ None }
+    ensures status { result ≡ machine_status machine.old.cell.held }
+    ensures vacant { machine.new.cell.held ≡ None }
 {
     if !machine.is_booted() {
         return NO_MACHINE;

@@ -27,7 +27,7 @@ pub extern "C" fn partmem_read(
     place: u32,
     to: &mut [u8],
 ) -> u32
-    ensures read { RunsCall machine.old.slot.held (Tenant tenant (Read place (read_length (length to.old)))) machine.new.slot.held
+    ensures read { RunsCall machine.old.cell.held (Tenant tenant (Read place (read_length (length to.old)))) machine.new.cell.held
         (λ reply. (result ≡ call_status (numbers_in_reply reply)) × (to.new ≡ read_over (bytes_in_reply reply) to.old)) }
     ensures few { drop MAX_BYTES to.new ≡ drop MAX_BYTES to.old }
     ensures not_done { result ≢ DONE → to.new ≡ to.old }
@@ -83,9 +83,9 @@ pub extern "C" fn partmem_write(
     from: &[u8],
 ) -> u32
     ensures written { is_writable from.now ≡ true
-        → RunsCall machine.old.slot.held (Tenant tenant (Write place (record { items = from.now }))) machine.new.slot.held
+        → RunsCall machine.old.cell.held (Tenant tenant (Write place (record { items = from.now }))) machine.new.cell.held
         (λ reply. result ≡ call_status (numbers_in_reply reply)) }
-    ensures bad_length { is_writable from.now ≡ false → IsNoEvent machine.old.slot.held machine.new.slot.held result }
+    ensures bad_length { is_writable from.now ≡ false → IsNoEvent machine.old.cell.held machine.new.cell.held result }
 {
     if !(1..=MAX_BYTES).contains(&from.len()) {
         return status_of_none(machine);

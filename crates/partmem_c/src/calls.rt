@@ -25,7 +25,7 @@ pub(crate) fn run_command(
 ) -> Option<ReplyNumbers>
     requires askable { IsAskable request }
     requires apart { asks_bytes request ≡ false }
-    ensures { RunsCall machine.old.slot.held (Tenant tenant (command_of request.entry)) machine.new.slot.held
+    ensures { RunsCall machine.old.cell.held (Tenant tenant (command_of request.entry)) machine.new.cell.held
         (λ reply. result ≡ numbers_in_reply reply) }
 {
     let Some(kernel) = machine.kernel() else {
@@ -42,7 +42,7 @@ pub(crate) fn run_admin_command(
     command: AdminCommand,
 ) -> Option<ReplyNumbers>
     requires { command ≢ Pool }
-    ensures { RunsCall machine.old.slot.held (Admin command) machine.new.slot.held (λ reply. result ≡ numbers_in_reply reply) }
+    ensures { RunsCall machine.old.cell.held (Admin command) machine.new.cell.held (λ reply. result ≡ numbers_in_reply reply) }
 {
     let Some(kernel) = machine.kernel() else {
         return None;

@@ -181,11 +181,11 @@ pub extern "C" fn partmem_event(
     reply: &mut ReplyNumbers,
     buffer: &mut [u8],
 ) -> u32
-    ensures status { result ≡ event_status machine.old.slot.held request.now bytes.now buffer.old }
+    ensures status { result ≡ event_status machine.old.cell.held request.now bytes.now buffer.old }
     ensures done { result ≡ DONE
-        → RunsEvent machine.old.slot.held machine.new.slot.held request.now bytes.now reply.new buffer.old buffer.new }
+        → RunsEvent machine.old.cell.held machine.new.cell.held request.now bytes.now reply.new buffer.old buffer.new }
     ensures not_done { result ≢ DONE
-        → ChangesNothing machine.old.slot.held machine.new.slot.held reply.old reply.new buffer.old buffer.new }
+        → ChangesNothing machine.old.cell.held machine.new.cell.held reply.old reply.new buffer.old buffer.new }
 {
     match kind_with_buffer(request.kind, buffer.len()) {
         NOTHING => status_without_buffer(machine, request, bytes),
@@ -214,7 +214,7 @@ fn kind_with_buffer(kind: u32, buffer: usize) -> u32
 #[cold]
 #[inline(never)]
 fn status_without_buffer(machine: &MachineStorage, request: &RequestNumbers, bytes: &[u8]) -> u32
-    ensures { result ≡ status_of_event machine.now.slot.held request.now bytes.now BUFFER_TOO_SMALL }
+    ensures { result ≡ status_of_event machine.now.cell.held request.now bytes.now BUFFER_TOO_SMALL }
 {
     if !machine.is_booted() {
         return NO_MACHINE;
@@ -240,9 +240,9 @@ fn plain_event<const KIND: u32>(
 ) -> u32
     requires kind { request.now.kind ≡ KIND }
     requires plain { is_plain KIND ≡ true }
-    ensures status { result ≡ machine_status machine.old.slot.held }
-    ensures done { result ≡ DONE → RunsApart machine.old.slot.held machine.new.slot.held request.now reply.new }
-    ensures not_done { result ≢ DONE → IsNothingDone machine.old.slot.held machine.new.slot.held reply.old reply.new }
+    ensures status { result ≡ machine_status machine.old.cell.held }
+    ensures done { result ≡ DONE → RunsApart machine.old.cell.held machine.new.cell.held request.now reply.new }
+    ensures not_done { result ≢ DONE → IsNothingDone machine.old.cell.held machine.new.cell.held reply.old reply.new }
 {
     let command = plain_request(KIND, request);
     ask(alloc, machine, request.tenant, command, reply)
@@ -282,11 +282,11 @@ fn ask(
 ) -> u32
     requires askable { IsAskable command }
     requires apart { asks_bytes command ≡ false }
-    ensures status { result ≡ machine_status machine.old.slot.held }
+    ensures status { result ≡ machine_status machine.old.cell.held }
     ensures done { result ≡ DONE → (request : RequestNumbers) (bytes buffer : List ℕ)
         → requested_event request bytes ≡ Some (Tenant tenant (command_of command.entry))
-        → RunsEvent machine.old.slot.held machine.new.slot.held request bytes reply.new buffer buffer }
-    ensures not_done { result ≢ DONE → IsNothingDone machine.old.slot.held machine.new.slot.held reply.old reply.new }
+        → RunsEvent machine.old.cell.held machine.new.cell.held request bytes reply.new buffer buffer }
+    ensures not_done { result ≢ DONE → IsNothingDone machine.old.cell.held machine.new.cell.held reply.old reply.new }
 {
     let Some(kernel) = machine.kernel() else {
         return NO_MACHINE;
@@ -306,11 +306,11 @@ fn event_in_first(
     buffer: &mut [u8],
 ) -> u32
     requires buffer { MAX_BYTES ≤ length buffer.old }
-    ensures status { result ≡ status_of_event machine.old.slot.held request.now bytes.now DONE }
+    ensures status { result ≡ status_of_event machine.old.cell.held request.now bytes.now DONE }
     ensures done { result ≡ DONE
-        → RunsEvent machine.old.slot.held machine.new.slot.held request.now bytes.now reply.new buffer.old buffer.new }
+        → RunsEvent machine.old.cell.held machine.new.cell.held request.now bytes.now reply.new buffer.old buffer.new }
     ensures not_done { result ≢ DONE
-        → ChangesNothing machine.old.slot.held machine.new.slot.held reply.old reply.new buffer.old buffer.new }
+        → ChangesNothing machine.old.cell.held machine.new.cell.held reply.old reply.new buffer.old buffer.new }
 {
     other_event(
         alloc,
@@ -333,11 +333,11 @@ fn other_event(
     buffer: &mut [u8],
 ) -> u32
     requires buffer { MAX_BYTES ≤ length buffer.old }
-    ensures status { result ≡ status_of_event machine.old.slot.held request.now bytes.now DONE }
+    ensures status { result ≡ status_of_event machine.old.cell.held request.now bytes.now DONE }
     ensures done { result ≡ DONE
-        → RunsEvent machine.old.slot.held machine.new.slot.held request.now bytes.now reply.new buffer.old buffer.new }
+        → RunsEvent machine.old.cell.held machine.new.cell.held request.now bytes.now reply.new buffer.old buffer.new }
     ensures not_done { result ≢ DONE
-        → ChangesNothing machine.old.slot.held machine.new.slot.held reply.old reply.new buffer.old buffer.new }
+        → ChangesNothing machine.old.cell.held machine.new.cell.held reply.old reply.new buffer.old buffer.new }
 {
     match request.kind {
         READ => read_event(alloc, machine, request, reply, buffer),
@@ -359,11 +359,11 @@ fn read_event(
 ) -> u32
     requires kind { request.now.kind ≡ READ }
     requires buffer { MAX_BYTES ≤ length buffer.old }
-    ensures status { result ≡ machine_status machine.old.slot.held }
+    ensures status { result ≡ machine_status machine.old.cell.held }
     ensures done { result ≡ DONE → (bytes : List ℕ)
-        → RunsEvent machine.old.slot.held machine.new.slot.held request.now bytes reply.new buffer.old buffer.new }
+        → RunsEvent machine.old.cell.held machine.new.cell.held request.now bytes reply.new buffer.old buffer.new }
     ensures not_done { result ≢ DONE
-        → ChangesNothing machine.old.slot.held machine.new.slot.held reply.old reply.new buffer.old buffer.new }
+        → ChangesNothing machine.old.cell.held machine.new.cell.held reply.old reply.new buffer.old buffer.new }
 {
     let Some(kernel) = machine.kernel() else {
         return NO_MACHINE;
@@ -385,10 +385,10 @@ fn write_event(
     reply: &mut ReplyNumbers,
 ) -> u32
     requires kind { request.now.kind ≡ WRITE }
-    ensures status { result ≡ status_of_event machine.old.slot.held request.now bytes.now DONE }
+    ensures status { result ≡ status_of_event machine.old.cell.held request.now bytes.now DONE }
     ensures done { result ≡ DONE → (buffer : List ℕ)
-        → RunsEvent machine.old.slot.held machine.new.slot.held request.now bytes.now reply.new buffer buffer }
-    ensures not_done { result ≢ DONE → IsNothingDone machine.old.slot.held machine.new.slot.held reply.old reply.new }
+        → RunsEvent machine.old.cell.held machine.new.cell.held request.now bytes.now reply.new buffer buffer }
+    ensures not_done { result ≢ DONE → IsNothingDone machine.old.cell.held machine.new.cell.held reply.old reply.new }
 {
     if !(1..=MAX_BYTES).contains(&bytes.len()) {
         return status_of_none(machine);
@@ -413,10 +413,10 @@ fn cache_event(
     reply: &mut ReplyNumbers,
 ) -> u32
     requires kind { request.now.kind ≡ CACHE }
-    ensures status { result ≡ status_of_event machine.old.slot.held request.now bytes.now DONE }
+    ensures status { result ≡ status_of_event machine.old.cell.held request.now bytes.now DONE }
     ensures done { result ≡ DONE → (buffer : List ℕ)
-        → RunsEvent machine.old.slot.held machine.new.slot.held request.now bytes.now reply.new buffer buffer }
-    ensures not_done { result ≢ DONE → IsNothingDone machine.old.slot.held machine.new.slot.held reply.old reply.new }
+        → RunsEvent machine.old.cell.held machine.new.cell.held request.now bytes.now reply.new buffer buffer }
+    ensures not_done { result ≢ DONE → IsNothingDone machine.old.cell.held machine.new.cell.held reply.old reply.new }
 {
     if !(1..=MAX_PATTERN).contains(&bytes.len()) {
         return status_of_none(machine);
@@ -431,7 +431,7 @@ fn cache_event(
 
 /// Returns the status of a call whose numbers and bytes are not an event: `NO_MACHINE` or `NOT_AN_EVENT`.
 pub(crate) fn status_of_none(machine: &MachineStorage) -> u32
-    ensures { result ≡ (if is_some machine.now.slot.held then NOT_AN_EVENT else NO_MACHINE) }
+    ensures { result ≡ (if is_some machine.now.cell.held then NOT_AN_EVENT else NO_MACHINE) }
 {
     if machine.is_booted() {
         NOT_AN_EVENT
@@ -452,11 +452,11 @@ fn rare_event(
     buffer: &mut [u8],
 ) -> u32
     requires buffer { MAX_BYTES ≤ length buffer.old }
-    ensures status { result ≡ status_of_event machine.old.slot.held request.now bytes.now DONE }
+    ensures status { result ≡ status_of_event machine.old.cell.held request.now bytes.now DONE }
     ensures done { result ≡ DONE
-        → RunsEvent machine.old.slot.held machine.new.slot.held request.now bytes.now reply.new buffer.old buffer.new }
+        → RunsEvent machine.old.cell.held machine.new.cell.held request.now bytes.now reply.new buffer.old buffer.new }
     ensures not_done { result ≢ DONE
-        → ChangesNothing machine.old.slot.held machine.new.slot.held reply.old reply.new buffer.old buffer.new }
+        → ChangesNothing machine.old.cell.held machine.new.cell.held reply.old reply.new buffer.old buffer.new }
 {
     let Some(kernel) = machine.kernel() else {
         return NO_MACHINE;

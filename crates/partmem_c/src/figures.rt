@@ -91,7 +91,7 @@ pub extern "C" fn partmem_report(
     tenant: u32,
     figures: &mut Figures,
 ) -> u32
-    ensures { RunsCall machine.old.slot.held (Tenant tenant Command.Report) machine.new.slot.held
+    ensures { RunsCall machine.old.cell.held (Tenant tenant Command.Report) machine.new.cell.held
         (λ reply. (result ≡ call_status (numbers_in_reply reply)) × (figures.new ≡ reported_figures reply)) }
 {
     *figures = Figures::zeroes();

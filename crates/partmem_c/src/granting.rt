@@ -30,7 +30,7 @@ pub extern "C" fn partmem_grant(
     tenant: u32,
     granted: &mut HeldSlot,
 ) -> u32
-    ensures { RunsCall machine.old.slot.held (Admin (Grant tenant)) machine.new.slot.held
+    ensures { RunsCall machine.old.cell.held (Admin (Grant tenant)) machine.new.cell.held
         (λ reply. (result ≡ call_status (numbers_in_reply reply)) × (granted.new ≡ returned_slot GRANTED (numbers_in_reply reply))) }
 {
     let reply = run_admin_command(alloc, machine, AdminCommand::Grant { tenant });
@@ -48,7 +48,7 @@ pub extern "C" fn partmem_take_back(
     tenant: u32,
     slot: u32,
 ) -> u32
-    ensures { RunsCall machine.old.slot.held (Admin (TakeBack tenant slot)) machine.new.slot.held
+    ensures { RunsCall machine.old.cell.held (Admin (TakeBack tenant slot)) machine.new.cell.held
         (λ reply. result ≡ call_status (numbers_in_reply reply)) }
 {
     call_status(run_admin_command(alloc, machine, AdminCommand::TakeBack { tenant, slot }))
@@ -66,7 +66,7 @@ pub extern "C" fn partmem_move(
     slot: u32,
     moved: &mut HeldSlot,
 ) -> u32
-    ensures { RunsCall machine.old.slot.held (Admin (Move tenant slot)) machine.new.slot.held
+    ensures { RunsCall machine.old.cell.held (Admin (Move tenant slot)) machine.new.cell.held
         (λ reply. (result ≡ call_status (numbers_in_reply reply)) × (moved.new ≡ returned_slot MOVED (numbers_in_reply reply))) }
 {
     let reply = run_admin_command(alloc, machine, AdminCommand::Move { tenant, slot });
@@ -79,7 +79,7 @@ pub extern "C" fn partmem_move(
 /// Fails with `NO_MACHINE` or `NO_TENANT`.
 #[unsafe(no_mangle)]
 pub extern "C" fn partmem_reset(alloc: Global, machine: &mut MachineStorage, tenant: u32) -> u32
-    ensures { RunsCall machine.old.slot.held (Admin (Reset tenant)) machine.new.slot.held
+    ensures { RunsCall machine.old.cell.held (Admin (Reset tenant)) machine.new.cell.held
         (λ reply. result ≡ call_status (numbers_in_reply reply)) }
 {
     call_status(run_admin_command(alloc, machine, AdminCommand::Reset { tenant }))

@@ -41,8 +41,8 @@ pub extern "C" fn partmem_find_object(
     place: u32,
     found: &mut HolderNumbers,
 ) -> u32
-    ensures finds { LooksUp no_holder machine.old.slot.held (λ k outcome. FindsHolder k tenant place outcome) result found.new }
-    ensures kept { machine.new.slot.held ≡ machine.old.slot.held }
+    ensures finds { LooksUp no_holder machine.old.cell.held (λ k outcome. FindsHolder k tenant place outcome) result found.new }
+    ensures kept { machine.new.cell.held ≡ machine.old.cell.held }
 {
     *found = NO_HOLDER;
     let Some(kernel) = machine.kernel() else {

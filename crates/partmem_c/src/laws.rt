@@ -40,8 +40,8 @@ pub fn offsets_are_refused()
 
 /// If C holds a kernel between two calls, all invariants of the kernel are true. This function changes nothing.
 pub fn is_kernel(alloc: Global, machine: &mut MachineStorage)
-    ensures kernel { IfSome machine.old.slot.held (λ k. IsKernel k) }
-    ensures same { machine.new.slot.held ≡ machine.old.slot.held }
+    ensures kernel { IfSome machine.old.cell.held (λ k. IsKernel k) }
+    ensures same { machine.new.cell.held ≡ machine.old.cell.held }
 {
     let Some(kernel) = machine.kernel() else {
         return;

@@ -107,8 +107,8 @@ pub extern "C" fn partmem_lend(
     bytes: u32,
     lent: &mut Lent,
 ) -> u32
-    ensures lends { LooksUp no_lent machine.old.slot.held (λ k outcome. FindsRange k tenant place bytes outcome) result lent.new }
-    ensures kept { machine.new.slot.held ≡ machine.old.slot.held }
+    ensures lends { LooksUp no_lent machine.old.cell.held (λ k outcome. FindsRange k tenant place bytes outcome) result lent.new }
+    ensures kept { machine.new.cell.held ≡ machine.old.cell.held }
 {
     let Some(kernel) = machine.kernel() else {
         *lent = Lent::none();
@@ -138,8 +138,8 @@ pub extern "C" fn partmem_lend_block(
     place: u32,
     block: &mut Lent,
 ) -> u32
-    ensures lends { LooksUp no_lent machine.old.slot.held (λ k outcome. FindsWholeBlock k tenant place outcome) result block.new }
-    ensures kept { machine.new.slot.held ≡ machine.old.slot.held }
+    ensures lends { LooksUp no_lent machine.old.cell.held (λ k outcome. FindsWholeBlock k tenant place outcome) result block.new }
+    ensures kept { machine.new.cell.held ≡ machine.old.cell.held }
 {
     let Some(kernel) = machine.kernel() else {
         *block = Lent::none();
@@ -170,9 +170,9 @@ pub extern "C" fn partmem_lend_object(
     place: u32,
     object: &mut Lent,
 ) -> u32
-    ensures lends { LooksUp no_lent machine.old.slot.held (λ k outcome. FindsObject k tenant cache place outcome)
+    ensures lends { LooksUp no_lent machine.old.cell.held (λ k outcome. FindsObject k tenant cache place outcome)
         result object.new }
-    ensures kept { machine.new.slot.held ≡ machine.old.slot.held }
+    ensures kept { machine.new.cell.held ≡ machine.old.cell.held }
 {
     let Some(kernel) = machine.kernel() else {
         *object = Lent::none();

@@ -44,11 +44,11 @@ pub extern "C" fn partmem_line(
     buffer: &mut [u8],
     written: &mut usize,
 ) -> u32
-    ensures status { result ≡ line_status machine.old.slot.held line.now buffer.old }
+    ensures status { result ≡ line_status machine.old.cell.held line.now buffer.old }
     ensures done { result ≡ DONE
-        → RunsLine machine.old.slot.held machine.new.slot.held line.now buffer.old buffer.new written.new }
+        → RunsLine machine.old.cell.held machine.new.cell.held line.now buffer.old buffer.new written.new }
     ensures not_done { result ≢ DONE
-        → (machine.new.slot.held ≡ machine.old.slot.held) × (buffer.new ≡ buffer.old) × (written.new ≡ 0) }
+        → (machine.new.cell.held ≡ machine.old.cell.held) × (buffer.new ≡ buffer.old) × (written.new ≡ 0) }
 {
     *written = 0;
     let Some(kernel) = machine.kernel() else {

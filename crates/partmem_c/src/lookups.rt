@@ -54,8 +54,8 @@ pub extern "C" fn partmem_find_slot(
     slot: u32,
     found: &mut HeldSlot,
 ) -> u32
-    ensures finds { LooksUp no_slot machine.old.slot.held (λ k outcome. outcome ≡ slot_at k tenant slot) result found.new }
-    ensures kept { machine.new.slot.held ≡ machine.old.slot.held }
+    ensures finds { LooksUp no_slot machine.old.cell.held (λ k outcome. outcome ≡ slot_at k tenant slot) result found.new }
+    ensures kept { machine.new.cell.held ≡ machine.old.cell.held }
 {
     *found = NO_SLOT;
     let Some(kernel) = machine.kernel() else {
@@ -92,8 +92,8 @@ pub extern "C" fn partmem_find_block(
     place: u32,
     found: &mut Block,
 ) -> u32
-    ensures finds { LooksUp no_block machine.old.slot.held (λ k outcome. FindsBlock k tenant place outcome) result found.new }
-    ensures kept { machine.new.slot.held ≡ machine.old.slot.held }
+    ensures finds { LooksUp no_block machine.old.cell.held (λ k outcome. FindsBlock k tenant place outcome) result found.new }
+    ensures kept { machine.new.cell.held ≡ machine.old.cell.held }
 {
     *found = NO_BLOCK;
     let Some(kernel) = machine.kernel() else {

@@ -2,19 +2,19 @@
 
 ghost use Rattle.std.specs.Prelude.{◌≡◌, is_some, IsSome, IfSome, Some, None};
 
+use crate::kernel_cell::KernelCell;
 use crate::raw_box::RawBox;
-use crate::slot::Slot;
 use kernel_core::Kernel;
 use std::alloc::Global;
 use std::mem::replace;
 
 /// The storage in which C keeps a machine. It is all zero while it holds no machine. Clauses call the machine's kernel
-/// `slot.held`.
+/// `cell.held`.
 #[repr(C)]
 pub struct MachineStorage {
     is_booted: bool,
-    pub slot: Slot,
-    ghost agrees: { is_booted ≡ is_some slot.held },
+    pub cell: KernelCell,
+    ghost agrees: { is_booted ≡ is_some cell.held },
 }
 
 impl MachineStorage {
@@ -23,7 +23,7 @@ impl MachineStorage {
 
     /// Returns true if the storage holds a machine.
     pub fn is_booted(&self) -> bool
-        ensures { result ≡ is_some self.now.slot.held }
+        ensures { result ≡ is_some self.now.cell.held }
     {
         self.is_booted
     }
@@ -32,33 +32,33 @@ impl MachineStorage {
     #[inline(always)]
     pub fn kernel(&mut self) -> Option<&mut Kernel>
         ensures* writes_back { sem 𝓛 (LendsKernel self.entry result) }
-        ensures none { result ≡ None → self.old.slot.held ≡ None }
-        ensures value { IfSome result (λ k. self.old.slot.held ≡ Some k.now) }
+        ensures none { result ≡ None → self.old.cell.held ≡ None }
+        ensures value { IfSome result (λ k. self.old.cell.held ≡ Some k.now) }
     {
         if !self.is_booted {
             return None;
         }
-        Some(self.slot.kernel())
+        Some(self.cell.kernel())
     }
 
     /// Stores a kernel. The storage must not hold a machine.
     pub fn put_in(&mut self, kernel: Box<Kernel>)
-        requires { self.old.slot.held ≡ None }
-        ensures { self.new.slot.held ≡ Some kernel.value }
+        requires { self.old.cell.held ≡ None }
+        ensures { self.new.cell.held ≡ Some kernel.value }
     {
-        let vacant = replace(&mut self.slot, Slot::park(RawBox::of(kernel)));
+        let vacant = replace(&mut self.cell, KernelCell::park(RawBox::of(kernel)));
         self.is_booted = true;
         vacant.discard();
     }
 
     /// Takes the kernel out. The storage then holds no machine.
     pub fn take_out(&mut self, alloc: Global) -> Box<Kernel>
-        requires { IsSome self.old.slot.held }
-        ensures held { self.old.slot.held ≡ Some result.value }
-        ensures vacant { self.new.slot.held ≡ None }
+        requires { IsSome self.old.cell.held }
+        ensures held { self.old.cell.held ≡ Some result.value }
+        ensures vacant { self.new.cell.held ≡ None }
     {
-        let slot = replace(&mut self.slot, Slot::vacant());
+        let cell = replace(&mut self.cell, KernelCell::vacant());
         self.is_booted = false;
-        slot.unpark(alloc).into_box()
+        cell.unpark(alloc).into_box()
     }
 }

@@ -56,10 +56,10 @@ pub extern "C" fn partmem_make_cache(
     made: &mut MadeCache,
 ) -> u32
     ensures made { is_pattern pattern.now ≡ true
-        → RunsCall machine.old.slot.held (Tenant tenant (Cache size align (record { items = pattern.now }))) machine.new.slot.held
+        → RunsCall machine.old.cell.held (Tenant tenant (Cache size align (record { items = pattern.now }))) machine.new.cell.held
         (λ reply. (result ≡ call_status (numbers_in_reply reply)) × (made.new ≡ made_cache (numbers_in_reply reply))) }
     ensures bad_pattern { is_pattern pattern.now ≡ false
-        → IsNoEvent machine.old.slot.held machine.new.slot.held result × (made.new ≡ made_cache None) }
+        → IsNoEvent machine.old.cell.held machine.new.cell.held result × (made.new ≡ made_cache None) }
 {
     if !(1..=MAX_PATTERN).contains(&pattern.len()) {
         *made = NO_CACHE;
@@ -85,7 +85,7 @@ pub extern "C" fn partmem_destroy_cache(
     tenant: u32,
     cache: u32,
 ) -> u32
-    ensures { RunsCall machine.old.slot.held (Tenant tenant (Destroy cache)) machine.new.slot.held
+    ensures { RunsCall machine.old.cell.held (Tenant tenant (Destroy cache)) machine.new.cell.held
         (λ reply. result ≡ call_status (numbers_in_reply reply)) }
 {
     call_status(run_command(alloc, machine, tenant, Request::Destroy { cache }))
@@ -102,9 +102,9 @@ pub extern "C" fn partmem_take(
     cache: u32,
     object: &mut Lent,
 ) -> u32
-    ensures runs { RunsCall machine.old.slot.held (Tenant tenant (Take cache)) machine.new.slot.held
+    ensures runs { RunsCall machine.old.cell.held (Tenant tenant (Take cache)) machine.new.cell.held
         (λ reply. (result ≡ call_status (numbers_in_reply reply)) × IsObjectLent (numbers_in_reply reply) object.new) }
-    ensures object { IfSome machine.new.slot.held (λ k. IsObjectOf k tenant cache object.new) }
+    ensures object { IfSome machine.new.cell.held (λ k. IsObjectOf k tenant cache object.new) }
 {
     let Some(kernel) = machine.kernel() else {
         *object = Lent::none();
@@ -133,7 +133,7 @@ pub extern "C" fn partmem_give(
     cache: u32,
     place: u32,
 ) -> u32
-    ensures { RunsCall machine.old.slot.held (Tenant tenant (Give cache place)) machine.new.slot.held
+    ensures { RunsCall machine.old.cell.held (Tenant tenant (Give cache place)) machine.new.cell.held
         (λ reply. result ≡ call_status (numbers_in_reply reply)) }
 {
     let Some(kernel) = machine.kernel() else {
@@ -165,7 +165,7 @@ pub extern "C" fn partmem_reap(
     tenant: u32,
     frames: &mut u32,
 ) -> u32
-    ensures { RunsCall machine.old.slot.held (Tenant tenant Reap) machine.new.slot.held
+    ensures { RunsCall machine.old.cell.held (Tenant tenant Reap) machine.new.cell.held
         (λ reply. (result ≡ call_status (numbers_in_reply reply)) × (frames.new ≡ reaped_frames (numbers_in_reply reply))) }
 {
     let reply = run_command(alloc, machine, tenant, Request::Reap);

@@ -29,8 +29,8 @@ const NO_OWNER: Owner = Owner {
 /// Returns the number of bytes in each superblock, or 0 without a machine.
 #[unsafe(no_mangle)]
 pub extern "C" fn partmem_superblock_bytes(alloc: Global, machine: &mut MachineStorage) -> u32
-    ensures bytes { result ≡ size_of_superblock machine.old.slot.held }
-    ensures kept { machine.new.slot.held ≡ machine.old.slot.held }
+    ensures bytes { result ≡ size_of_superblock machine.old.cell.held }
+    ensures kept { machine.new.cell.held ≡ machine.old.cell.held }
 {
     let Some(kernel) = machine.kernel() else {
         return 0;
@@ -55,11 +55,11 @@ pub extern "C" fn partmem_find_superblock(
     superblock: u32,
     owner: &mut Owner,
 ) -> u32
-    ensures status { result ≡ owner_status machine.old.slot.held superblock }
+    ensures status { result ≡ owner_status machine.old.cell.held superblock }
     ensures done { result ≡ DONE
-        → IfSome machine.old.slot.held (λ k. owner.new ≡ owner_numbers (owner_at k.space.owners superblock)) }
+        → IfSome machine.old.cell.held (λ k. owner.new ≡ owner_numbers (owner_at k.space.owners superblock)) }
     ensures not_done { result ≢ DONE → owner.new ≡ owner_numbers None }
-    ensures kept { machine.new.slot.held ≡ machine.old.slot.held }
+    ensures kept { machine.new.cell.held ≡ machine.old.cell.held }
 {
     *owner = NO_OWNER;
     let Some(kernel) = machine.kernel() else {

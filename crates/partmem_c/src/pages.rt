@@ -29,7 +29,7 @@ pub extern "C" fn partmem_alloc(
     order: u32,
     block: &mut Lent,
 ) -> u32
-    ensures { RunsCall machine.old.slot.held (Tenant tenant (Alloc order)) machine.new.slot.held
+    ensures { RunsCall machine.old.cell.held (Tenant tenant (Alloc order)) machine.new.cell.held
         (λ reply. (result ≡ call_status (numbers_in_reply reply)) × IsBlockLent order (numbers_in_reply reply) block.new) }
 {
     let Some(kernel) = machine.kernel() else {
@@ -58,7 +58,7 @@ pub extern "C" fn partmem_free(
     tenant: u32,
     place: u32,
 ) -> u32
-    ensures { RunsCall machine.old.slot.held (Tenant tenant (Free (frame_at_place place))) machine.new.slot.held
+    ensures { RunsCall machine.old.cell.held (Tenant tenant (Free (frame_at_place place))) machine.new.cell.held
         (λ reply. result ≡ call_status (numbers_in_reply reply)) }
 {
     let frame = frame_at_place(place);

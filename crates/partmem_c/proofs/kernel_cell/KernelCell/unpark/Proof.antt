@@ -1,4 +1,4 @@
--- `unpark` makes a `RawBox` of a slot's pointer and a given handle. The `RawBox` then owns the slot's kernel.
+-- `unpark` makes a `RawBox` of a cell's pointer and a given handle. The `RawBox` then owns the cell's kernel.
 use Rattle.std.proofs.Common.{◌≡◌, List, [], ◌∷◌, ◌++◌, Option, Some, is_some, true, refl, sym, subst, ap, ◌∙◌}
 use mir.Val.{Val, vptr}
 use mir.Raw.{raw as bare}
@@ -29,26 +29,26 @@ use Rattle.std_alloc.specs.Box.Ownership.{box_owns}
 use Rattle.partmem_c.proofs.RawBoxValues.{both, raw_good, raw_in}
 use Rattle.kernel_core.specs.contracts.kernel.Kernel.{the_row}
 use Rattle.kernel_core.specs.Content.{KernelContent}
-use Rattle.partmem_c.specs.Slots.{slot_owns}
-use Rattle.partmem_c.specs.contracts.slot.Slot as slot
-use Rattle.partmem_c.proofs.SlotSteps.{word, holds, slot_out}
-use Rattle.partmem_c.specs.contracts.slot.Slot.unpark as f
-use Rattle.partmem_c.proofs.slot.Slot.unpark.Statement.{statement}
-use Rattle.partmem_c.proofs.slot.Slot.unpark.Code as code
+use Rattle.partmem_c.specs.KernelCells.{cell_owns}
+use Rattle.partmem_c.specs.contracts.kernel_cell.KernelCell as cell
+use Rattle.partmem_c.proofs.KernelCellSteps.{word, holds, cell_out}
+use Rattle.partmem_c.specs.contracts.kernel_cell.KernelCell.unpark as f
+use Rattle.partmem_c.proofs.kernel_cell.KernelCell.unpark.Statement.{statement}
+use Rattle.partmem_c.proofs.kernel_cell.KernelCell.unpark.Code as code
 
 pub unpark_spec : {M : Type 1} → statement M
 unpark_spec 𝓤 𝓛 𝓜 𝓡 wired =
     let H = 𝓛.H in let 𝓣 = tables 𝓤 H 𝓜 𝓡 𝓡.env in let c = f.clauses 𝓛 𝓜.mem 𝓡.returns in
     let Z : RattleType = heap.the_row in let LZ = heap_laws.the_row_laws in
-    let hs : Stays f.ended.signature.params f.ended.kept = (stay_dropped (plain (λ _. slot.the_row)) yes, (stay_dropped (plain (λ _. Z)) yes, tt)) in
-    proved_at 𝓛 f.ended hs c 𝓜 𝓡 (Goes-dropped 𝓛 0 (plain (λ _. slot.the_row)) yes (λ κs x w. refl), (Goes-dropped 𝓛 0 (plain (λ _. Z)) yes (λ κs x w. refl), tt))
+    let hs : Stays f.ended.signature.params f.ended.kept = (stay_dropped (plain (λ _. cell.the_row)) yes, (stay_dropped (plain (λ _. Z)) yes, tt)) in
+    proved_at 𝓛 f.ended hs c 𝓜 𝓡 (Goes-dropped 𝓛 0 (plain (λ _. cell.the_row)) yes (λ κs x w. refl), (Goes-dropped 𝓛 0 (plain (λ _. Z)) yes (λ κs x w. refl), tt))
     f.Key.name code.function (code.unfolded 𝓤 H 𝓜 𝓡 wired) (λ z are.
     let κs = z.0.0 in let qs = z.0.1 in let s = z.0.3.0 in let a = z.0.3.1.0 in let Post = (walk_of 𝓛 f.ended hs c).post z in
     let Run : List Val → SProp 𝓤 = λ ws. WpFn 𝓤 H 𝓣.C 𝓣.Λ code.function ws Post in
     let h = one (layout Z) z.0.4.1.0 ((LZ.lawful 𝓛).typed a z.0.4.1.0 are.1.0) in
     qed 𝓛 ((raw (alive 𝓛 f.signature κs qs) ⊛ ‵ (owns (types_at f.signature.params κs) z.0.3 z.0.4)) ∷ raw (fact 𝓤 (is_some s.held ≡ true)) ∷ []) ∵
-    move ! (1 ∷ []) $ heard ! (is_some s.held ≡ true) (λ some. let held = holds s.held some in split ! $ move ! (1 ∷ []) $ fsplit ! $ slot_out ! s z.0.4.0 (λ ws.
-    rewrite ! 0 (λ (o : Option KernelContent). ‵ (slot_owns s.at o)) held.1 refl $ fpick ! (λ from.
+    move ! (1 ∷ []) $ heard ! (is_some s.held ≡ true) (λ some. let held = holds s.held some in split ! $ move ! (1 ∷ []) $ fsplit ! $ cell_out ! s z.0.4.0 (λ ws.
+    rewrite ! 0 (λ (o : Option KernelContent). ‵ (cell_owns s.at o)) held.1 refl $ fpick ! (λ from.
     in_a_block ! s.at (λ p. box_owns (ghosts.dealloc_token from) the_row p held.0) (fst∗ 𝓤 (never 𝓤) (sem 𝓛 (ghosts.dealloc_token from (bare (lone the_row.mir)) null_ptr))) (λ b o e.
     let p = block_ptr b o in let made : Val = both (vptr b o) h.0 in let typed = raw_good the_row Z LZ ghosts b o h.0 h.2 in
     move ! (1 ∷ []) $ fsplit ! $ rewrite ! 0 (λ (us : List Val). ‵ (Z.own_val a us)) h.1 refl $ move ! (2 ∷ 0 ∷ []) $ raw_in the_row Z LZ ghosts ! b o h.0 a held.0 $

@@ -4,7 +4,7 @@ ghost use Rattle.std.specs.Prelude.{◌≡◌, IsSome, Option, Some, None};
 ghost use Rattle.std.specs.Coded.{coded_option};
 ghost use Rattle.kernel_core.specs.Content.{KernelContent};
 ghost use Rattle.kernel_core.specs.contracts.kernel.Kernel.{the_row};
-ghost use Rattle.partmem_c.specs.Slots.{slot_owns};
+ghost use Rattle.partmem_c.specs.KernelCells.{cell_owns};
 
 use crate::raw_box::RawBox;
 use kernel_core::Kernel;
@@ -14,45 +14,45 @@ use std::ptr::null_mut;
 
 /// The pointer of a boxed kernel, or null if there is no machine. Clauses call the kernel at the pointer `held`.
 ///
-/// C may hold a `Slot`, but not a box. A `Slot` is not `Drop`: outside this file, a kernel leaves it only by [`Slot::unpark`].
+/// C may hold a `KernelCell`, but not a box. A `KernelCell` is not `Drop`: outside this file, a kernel leaves it only by [`KernelCell::unpark`].
 /// When a machine ends, the box of its kernel is dropped and not forgotten, but no clause says so.
 #[repr(C)]
-pub struct Slot {
+pub struct KernelCell {
     at: *mut u8,
     pub ghost held: { Option KernelContent } by { coded_option the_row.coded },
 }
 
-impl Model for Slot {
-    ghost also_owns = { λ s. slot_owns s.at s.held };
+impl Model for KernelCell {
+    ghost also_owns = { λ s. cell_owns s.at s.held };
 }
 
-unsafe impl Send for Slot {}
+unsafe impl Send for KernelCell {}
 
-impl Slot {
+impl KernelCell {
     ghost use Rattle.std.specs.Borrow.{sem};
     ghost use Rattle.partmem_c.specs.Borrowing.{LendsHeld};
 
-    /// Returns a `Slot` without a kernel.
-    pub fn vacant() -> Slot
+    /// Returns a `KernelCell` without a kernel.
+    pub fn vacant() -> KernelCell
         ensures { result.held ≡ None }
     {
-        Slot { at: null_mut() }
+        KernelCell { at: null_mut() }
     }
 
-    /// Returns a `Slot` that holds this kernel.
-    pub fn park(kernel: RawBox<Kernel, Global>) -> Slot
+    /// Returns a `KernelCell` that holds this kernel.
+    pub fn park(kernel: RawBox<Kernel, Global>) -> KernelCell
         ensures { result.held ≡ Some kernel.value }
     {
         let RawBox { at, alloc: _ } = kernel;
-        Slot { at: at as *mut u8 }
+        KernelCell { at: at as *mut u8 }
     }
 
-    /// Returns the kernel of this `Slot`.
+    /// Returns the kernel of this `KernelCell`.
     pub fn unpark(self, alloc: Global) -> RawBox<Kernel, Global>
         requires { IsSome self.held }
         ensures { self.held ≡ Some result.value }
     {
-        let Slot { at } = self;
+        let KernelCell { at } = self;
         RawBox {
             at: at as *mut Kernel,
             alloc,
@@ -69,10 +69,10 @@ impl Slot {
         unsafe { &mut *(self.at as *mut Kernel) }
     }
 
-    /// Consumes a `Slot` without a kernel.
+    /// Consumes a `KernelCell` without a kernel.
     pub fn discard(self)
         requires { self.held ≡ None }
     {
-        let Slot { at: _ } = self;
+        let KernelCell { at: _ } = self;
     }
 }

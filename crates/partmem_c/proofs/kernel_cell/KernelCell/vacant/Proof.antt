@@ -1,4 +1,4 @@
--- `vacant` returns a slot whose pointer is null. This slot owns nothing.
+-- `vacant` returns a cell whose pointer is null. This cell owns nothing.
 use Rattle.std.proofs.Common.{◌≡◌, [], ◌∷◌, None, refl, lit<}
 use base.Logic.{emp}
 use types.Kit.{‵, raw, ◌⊛◌, ◌$◌, ◌∵◌, !, qed, by, keep, split, feq_i, use0}
@@ -14,10 +14,10 @@ use denote.Steps.{nothing}
 use denote.Triple.Entry.{alive}
 use denote.Triple.Walked.{walk_of}
 use Rattle.std.proofs.raw_atomic.Walks.{proved_at, leaves}
-use Rattle.partmem_c.proofs.SlotSteps.{word, slot_in}
-use Rattle.partmem_c.specs.contracts.slot.Slot.vacant as f
-use Rattle.partmem_c.proofs.slot.Slot.vacant.Statement.{statement}
-use Rattle.partmem_c.proofs.slot.Slot.vacant.Code as code
+use Rattle.partmem_c.proofs.KernelCellSteps.{word, cell_in}
+use Rattle.partmem_c.specs.contracts.kernel_cell.KernelCell.vacant as f
+use Rattle.partmem_c.proofs.kernel_cell.KernelCell.vacant.Statement.{statement}
+use Rattle.partmem_c.proofs.kernel_cell.KernelCell.vacant.Code as code
 
 pub vacant_spec : {M : Type 1} → statement M
 vacant_spec 𝓤 𝓛 𝓜 𝓡 wired =
@@ -28,5 +28,5 @@ vacant_spec 𝓤 𝓛 𝓜 𝓡 wired =
     enter ! 𝓣.C 𝓣.Λ code.function [] Post $ alloc_all ! (λ l. pass_all ! refl tt $
     sets ! (agg ! (and_then ! (lit ! tt) (no_more !))) refl (tt, (record { fits = lit< tt }, tt)) $
     returns ! (look_at ! 0 refl) $ free_all ! refl $
-    feq_i ! Ptr null_ptr null_ptr refl $ slot_in ! null_ptr None $ use0 𝓛 (raw (fact 𝓤 (None ≡ None))) (fact_i 𝓤 (None ≡ None) (emp 𝓤) refl) $ nothing ! $
+    feq_i ! Ptr null_ptr null_ptr refl $ cell_in ! null_ptr None $ use0 𝓛 (raw (fact 𝓤 (None ≡ None))) (fact_i 𝓤 (None ≡ None) (emp 𝓤) refl) $ nothing ! $
     keep ! (3 ∷ 0 ∷ 2 ∷ 1 ∷ []) $ by ! (leaves 𝓛 f.ended tt c z (word null_ptr) (record { at = null_ptr; held = None }) tt tt)))

@@ -1,4 +1,4 @@
--- Two steps of handwritten proofs: `slot_out` replaces a slot by what it owns, and `slot_in` makes a slot from what it owns.
+-- Two steps of handwritten proofs: `cell_out` replaces a cell by what it owns, and `cell_in` makes a cell from what it owns.
 -- Assumes `Logic`.
 use Rattle.std.proofs.Common.{◌≡◌, List, [], ◌∷◌, ◌++◌, true, Option, Some, None, is_some, refl, subst}
 use mathlib.Core.Bool.{◌&&◌}
@@ -15,13 +15,13 @@ use denote.Steps.{nothing}
 use denote.Struct.Struct.{within}
 use denote.Struct.Owning.{shape}
 use Rattle.kernel_core.specs.Content.{KernelContent}
-use Rattle.partmem_c.specs.Slots.{slot_owns}
-use Rattle.partmem_c.specs.contracts.slot.Slot as slot
+use Rattle.partmem_c.specs.KernelCells.{cell_owns}
+use Rattle.partmem_c.specs.contracts.kernel_cell.KernelCell as cell
 
 abbrev pub word : Ptr → Val
 word p = vstruct (vcons (ptr_val p) vnil)
 
--- if a slot's `held` is not None, it is Some k for a kernel k
+-- if a cell's `held` is not None, it is Some k for a kernel k
 pub holds : (held : Option KernelContent) → is_some held ≡ true → (k : KernelContent) × (held ≡ Some k)
 holds (Some k) some = (k, refl)
 holds None some = cc
@@ -31,14 +31,14 @@ word_good (block_ptr b o) = (tt, (tt, tt))
 word_good null_ptr = (tt, (record { fits = lit< tt }, tt))
 
 module _ {M : Type 1} {𝓤 : Ura M} {𝓛 : Logic 𝓤} {K : Type 0} {Γ : List (Item 𝓤)} {G : Goal 𝓤 𝓛.H} where
-  pub slot_out : K → (s : slot.the_row.Denot) (vs : List Val)
-      → (vs ≡ word s.at ∷ [] → Seq K 𝓛 (‵ (slot_owns s.at s.held) ∷ Γ) G)
-      → Seq K 𝓛 (‵ (slot.the_row.own_val s vs) ∷ Γ) G
-  slot_out t s vs k = fsplit t $ fpick t (λ vss. fsplit t $ feq_l t (λ whole. fsplit t $ feq_l t (λ part. drop t $
+  pub cell_out : K → (s : cell.the_row.Denot) (vs : List Val)
+      → (vs ≡ word s.at ∷ [] → Seq K 𝓛 (‵ (cell_owns s.at s.held) ∷ Γ) G)
+      → Seq K 𝓛 (‵ (cell.the_row.own_val s vs) ∷ Γ) G
+  cell_out t s vs k = fsplit t $ fpick t (λ vss. fsplit t $ feq_l t (λ whole. fsplit t $ feq_l t (λ part. drop t $
       k (subst (λ (ps : List Val). vs ≡ vstruct (of_list (ps ++ [])) ∷ []) part whole))))
 
-  pub slot_in : K → (p : Ptr) (held : Option KernelContent)
-      → Step K 𝓛 (‵ (slot.the_row.own_val (record { at = p; held = held }) (word p ∷ [])) ∷ Γ) G (‵ (slot_owns p held) ∷ Γ) G
-  slot_in t p held = step (λ s. nothing t $ feq_i t (List Val) (ptr_val p ∷ []) (ptr_val p ∷ []) refl $ fjoin t $
+  pub cell_in : K → (p : Ptr) (held : Option KernelContent)
+      → Step K 𝓛 (‵ (cell.the_row.own_val (record { at = p; held = held }) (word p ∷ [])) ∷ Γ) G (‵ (cell_owns p held) ∷ Γ) G
+  cell_in t p held = step (λ s. nothing t $ feq_i t (List Val) (ptr_val p ∷ []) (ptr_val p ∷ []) refl $ fjoin t $
       feq_i t (List Val) (word p ∷ []) (word p ∷ []) refl $ fjoin t $
-      fpack t (Valss (RawPtr ∷ [])) (within (shape slot.the_type) (p, tt) (word p ∷ [])) (ptr_val p ∷ [], tt) $ fjoin t $ s)
+      fpack t (Valss (RawPtr ∷ [])) (within (shape cell.the_type) (p, tt) (word p ∷ [])) (ptr_val p ∷ [], tt) $ fjoin t $ s)

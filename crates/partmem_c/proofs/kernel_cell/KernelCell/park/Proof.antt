@@ -1,4 +1,4 @@
--- `park` returns a slot with the pointer of a box. The slot then owns what the box owned.
+-- `park` returns a cell with the pointer of a box. The cell then owns what the box owned.
 use Rattle.std.proofs.Common.{◌≡◌, List, [], ◌∷◌, ◌++◌, Some, refl, sym, subst}
 use mir.Val.{Val, vptr}
 use base.Logic.{SProp, ent, emp, id⊢}
@@ -25,10 +25,10 @@ use Rattle.std.specs.contracts.impls.GlobalAllocator.TheImpl.{ghosts}
 use Rattle.std_alloc.specs.Box.Ownership.{box_owns}
 use Rattle.partmem_c.proofs.RawBoxValues.{both, Raw, raw_good, raw_out}
 use Rattle.kernel_core.specs.contracts.kernel.Kernel.{the_row}
-use Rattle.partmem_c.proofs.SlotSteps.{word, slot_in}
-use Rattle.partmem_c.specs.contracts.slot.Slot.park as f
-use Rattle.partmem_c.proofs.slot.Slot.park.Statement.{statement}
-use Rattle.partmem_c.proofs.slot.Slot.park.Code as code
+use Rattle.partmem_c.proofs.KernelCellSteps.{word, cell_in}
+use Rattle.partmem_c.specs.contracts.kernel_cell.KernelCell.park as f
+use Rattle.partmem_c.proofs.kernel_cell.KernelCell.park.Statement.{statement}
+use Rattle.partmem_c.proofs.kernel_cell.KernelCell.park.Code as code
 
 pub park_spec : {M : Type 1} → statement M
 park_spec 𝓤 𝓛 𝓜 𝓡 wired =
@@ -47,7 +47,7 @@ park_spec 𝓤 𝓛 𝓜 𝓡 wired =
     sets ! (of_opd ! (get ! refl)) refl (tt, tt) $
     sets ! (agg ! (and_then ! (get ! refl) (no_more !))) refl (tt, (tt, tt)) $
     returns ! (look_at ! 0 refl) $ free_all ! refl $
-    fpack ! Global (λ heap. box_owns (ghosts.dealloc_token heap) the_row p d.value) d.alloc $ slot_in ! p (Some d.value) $
+    fpack ! Global (λ heap. box_owns (ghosts.dealloc_token heap) the_row p d.value) d.alloc $ cell_in ! p (Some d.value) $
     use0 𝓛 (raw (fact 𝓤 (Some d.value ≡ Some d.value))) (fact_i 𝓤 (Some d.value ≡ Some d.value) (emp 𝓤) refl) $
     nothing ! $ nothing ! $ fjoin ! $
     keep ! (5 ∷ 0 ∷ 2 ∷ 1 ∷ []) $ by ! (leaves 𝓛 f.ended hs c z (word p) (record { at = p; held = Some d.value }) (tt, tt) (tt, tt)))))
