@@ -24,8 +24,9 @@ pub struct OwnSheets {
 impl OwnSheets {
     /// Returns an empty list.
     pub fn new() -> OwnSheets {
+        let listed = [0; MAX_LISTED];
         OwnSheets {
-            listed: [0; MAX_LISTED],
+            listed,
             len: 0,
             rest: 0,
         }

@@ -93,8 +93,9 @@ pub fn taking(piece: usize, good_pushes: u32) -> PieceDrain
     ensures contents { ⟦<PieceDrain as Drain>⟧.contents result ≡ Some [] }
     ensures fine { ⟦<PieceDrain as Drain>⟧.has_failed result ≡ false }
 {
+    let bytes = [0; BUFFER_BYTES];
     PieceDrain {
-        bytes: [0; BUFFER_BYTES],
+        bytes,
         len: 0,
         piece,
         good_pushes,

@@ -49,10 +49,11 @@ impl ShadowMemory {
         requires { order ≤ MAX_ORDER }
         ensures { result ≡ record { order = order; slots = [] } }
     {
+        let reach = [0; 256];
         ShadowMemory {
             order,
             slots: Vec::new(alloc),
-            reach: [0; 256],
+            reach,
         }
     }
 

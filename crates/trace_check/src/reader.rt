@@ -51,9 +51,10 @@ impl<F: Feed> LineReader<F> {
         ensures ended { result.ended ≡ F.has_ended feed }
         ensures fine { result.failed ≡ F.has_failed feed }
     {
+        let piece = [0; PIECE_BYTES];
         LineReader {
             feed,
-            piece: [0; PIECE_BYTES],
+            piece,
             start: 0,
             end: 0,
         }
