@@ -337,7 +337,7 @@ INLINE partmem_status enter(partmem_tenant who, struct machine **machine, struct
 /* Refuses a call that lends: fills its result with zeroes, and returns the reason. */
 RARE partmem_status refuse(partmem_lent *lent, partmem_status why)
 {
-    *lent = (partmem_lent){NULL, 0, 0};
+    *lent = (partmem_lent){NULL, 0, 0, 0};
     return why;
 }
 
@@ -370,7 +370,7 @@ partmem_status partmem_alloc(partmem_tenant who, uint32_t order, partmem_lent *b
     if (!has_block(tenant, order)) return alloc_after_reap(who, order, block);
     uint32_t its;
     const uint32_t frame = take_free(tenant, order, &its);
-    *block = (partmem_lent){address(machine, tenant, frame), frame * FRAME_BYTES, (uint32_t)FRAME_BYTES << order};
+    *block = (partmem_lent){address(machine, tenant, frame), frame * FRAME_BYTES, (uint32_t)FRAME_BYTES << order, who.number};
     const bool is_cleared = tenant->is_cleared[frame >> machine->order];
     return its == order && is_cleared ? PARTMEM_DONE : alloc_more(machine, tenant, frame, its, order);
 }
@@ -455,7 +455,7 @@ partmem_status partmem_take(partmem_tenant who, uint32_t number, partmem_lent *o
     *record |= *record + 1; /* sets the lowest 0 */
 
     const uint32_t offset = slab->colour + index * cache->chunk;
-    *object = (partmem_lent){at + offset, frame * FRAME_BYTES + offset, cache->size};
+    *object = (partmem_lent){at + offset, frame * FRAME_BYTES + offset, cache->size, who.number};
     cache->live++;
     const uint32_t live = ++slab->live;
     return live != 1 && live != cache->objects ? PARTMEM_DONE : relist_taken(tenant, number, frame);
@@ -500,7 +500,8 @@ partmem_status partmem_reap(partmem_tenant who, uint32_t *frames)
 /* ---- Bytes --------------------------------------------------------------------------------------------------------------- */
 
 /* Lends bytes inside one live page block or one live object. */
-INLINE partmem_status lend(const struct machine *machine, struct tenant *tenant, uint32_t place, size_t bytes, partmem_lent *lent)
+INLINE partmem_status lend(const struct machine *machine, partmem_tenant who, struct tenant *tenant, uint32_t place, size_t bytes,
+                           partmem_lent *lent)
 {
     /* the block */
     uint32_t frame = place / FRAME_BYTES, order = 0;
@@ -525,7 +526,7 @@ INLINE partmem_status lend(const struct machine *machine, struct tenant *tenant,
     }
 
     if (offset > most || bytes > most - offset) return refuse(lent, PARTMEM_OUT_OF_REACH);
-    *lent = (partmem_lent){address(machine, tenant, place / FRAME_BYTES) + place % FRAME_BYTES, place, (uint32_t)bytes};
+    *lent = (partmem_lent){address(machine, tenant, place / FRAME_BYTES) + place % FRAME_BYTES, place, (uint32_t)bytes, who.number};
     /* Here an earlier direct call has always cleared the slot. The test is here because the library needs it: an alloc by an
      * event lends nothing, and so clears nothing. */
     const uint32_t slot = place / FRAME_BYTES >> machine->order;
@@ -537,7 +538,7 @@ partmem_status partmem_lend(partmem_tenant who, uint32_t place, uint32_t bytes, 
     struct machine *machine;
     struct tenant *tenant;
     const partmem_status wrong = enter(who, &machine, &tenant);
-    return wrong == PARTMEM_DONE ? lend(machine, tenant, place, bytes, lent) : refuse(lent, wrong);
+    return wrong == PARTMEM_DONE ? lend(machine, who, tenant, place, bytes, lent) : refuse(lent, wrong);
 }
 
 partmem_status partmem_read(partmem_tenant who, uint32_t place, void *to, size_t bytes)
@@ -548,7 +549,7 @@ partmem_status partmem_read(partmem_tenant who, uint32_t place, void *to, size_t
     partmem_status wrong = enter(who, &machine, &tenant);
     if (wrong != PARTMEM_DONE) return wrong;
     if (bytes == 0 || bytes > PARTMEM_MAX_BYTES) return PARTMEM_BAD_LENGTH;
-    wrong = lend(machine, tenant, place, bytes, &lent);
+    wrong = lend(machine, who, tenant, place, bytes, &lent);
     if (wrong == PARTMEM_DONE) memcpy(to, lent.at, bytes);
     return wrong;
 }
@@ -561,7 +562,7 @@ partmem_status partmem_write(partmem_tenant who, uint32_t place, const void *fro
     if (bytes == 0 || bytes > PARTMEM_MAX_BYTES) return PARTMEM_NOT_AN_EVENT;
     partmem_status wrong = enter(who, &machine, &tenant);
     if (wrong != PARTMEM_DONE) return wrong;
-    wrong = lend(machine, tenant, place, bytes, &lent);
+    wrong = lend(machine, who, tenant, place, bytes, &lent);
     if (wrong == PARTMEM_DONE) memcpy(lent.at, from, bytes);
     return wrong;
 }

@@ -291,7 +291,7 @@ static uint64_t sum_of_more(uint64_t before, const struct call *call, uint32_t p
     };
     struct results results;
     for (size_t i = 0; i < sizeof lends / sizeof *lends; i++) {
-        partmem_lent lent = {buffer, 1, 1};
+        partmem_lent lent = {buffer, 1, 1, 0};
         uint32_t status = partmem_lend(tenant, lends[i].place, lends[i].bytes, &lent);
         const uint32_t found[] = {status, lent.place, lent.bytes, lent.at != NULL ? *(uint8_t *)lent.at : 256};
         before = sum(before, found, sizeof found);

@@ -32,6 +32,7 @@ struct Lent {
     at: *mut u8,
     place: u32,
     bytes: u32,
+    tenant: u32,
 }
 
 extern "C" {
@@ -98,7 +99,7 @@ fn main() {
     let (mut first, mut second) = (Booted::new(3, 2, 2), Booted::new(8, 256, 64));
     let (mut buffer, mut out) = (vec![0; 65_792], std::io::stdout());
     let (last, other) = (second.tenant(63), second.tenant(62));
-    let (mut slot, mut block) = (Slot::default(), Lent { at: ptr::null_mut(), place: 0, bytes: 0 });
+    let (mut slot, mut block) = (Slot::default(), Lent { at: ptr::null_mut(), place: 0, bytes: 0, tenant: 0 });
     assert_eq!(unsafe { partmem_grant(last, &mut slot) }, DONE);
     assert_eq!(unsafe { partmem_alloc(last, 4, &mut block) }, DONE);
     assert!(block.bytes().iter().all(|byte| *byte == 0));

@@ -185,11 +185,13 @@ typedef struct partmem_tenant {
     uint32_t number; /* from 0 */
 } partmem_tenant;
 
-/* Lent bytes: their address, the place of the first, and how many there are; for an object, its size. */
+/* Lent bytes: their address, the place of the first, how many there are (for an object, its size), and the tenant's number. All
+ * zero if nothing is lent. */
 typedef struct partmem_lent {
     void *at;
     uint32_t place;
     uint32_t bytes;
+    uint32_t tenant;
 } partmem_lent;
 
 /* The sizes of a machine. */

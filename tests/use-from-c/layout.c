@@ -21,10 +21,11 @@ STRUCT(partmem_tenant, 16, 8);
 FIELD(partmem_tenant, machine, partmem_machine *, 0);
 FIELD(partmem_tenant, number, uint32_t, 8);
 
-STRUCT(partmem_lent, 16, 8);
+STRUCT(partmem_lent, 24, 8);
 FIELD(partmem_lent, at, void *, 0);
 FIELD(partmem_lent, place, uint32_t, 8);
 FIELD(partmem_lent, bytes, uint32_t, 12);
+FIELD(partmem_lent, tenant, uint32_t, 16);
 
 STRUCT(partmem_config, 12, 4);
 FIELD(partmem_config, order, uint32_t, 0);

@@ -232,7 +232,7 @@ impl Machine {
     }
 
     fn hold<Kind>(&self, tenant: Tenant, lent: sys::Lent, kind: Kind) -> Handle<Kind> {
-        let sys::Lent { at, place, bytes } = lent;
+        let sys::Lent { at, place, bytes, .. } = lent;
         Handle { stamp: self.stamps[tenant.0 as usize].get(), moves: self.moves.get(), at, tenant, place, bytes, kind }
     }
 

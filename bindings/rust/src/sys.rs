@@ -22,6 +22,7 @@ pub struct Lent {
     pub at: *mut u8,
     pub place: Place,
     pub bytes: u32,
+    pub tenant: u32,
 }
 
 #[repr(C)]
@@ -71,7 +72,7 @@ impl Heap {
 
 impl Default for Lent {
     fn default() -> Lent {
-        Lent { at: core::ptr::null_mut(), place: Place::NOWHERE, bytes: 0 }
+        Lent { at: core::ptr::null_mut(), place: Place::NOWHERE, bytes: 0, tenant: 0 }
     }
 }
 

@@ -19,14 +19,15 @@ use Rattle.kernel_core.specs.Shows.{ShowsMachine}
 use Rattle.kernel_core.specs.Steps.{Steps, body_of}
 use Rattle.kernel_core.specs.Lending.{HasBlock, IsNotLent, reply_for}
 use Rattle.partmem_c.specs.declared.kinds.TheConstants.{FRAME, OBJECT}
-use Rattle.partmem_c.specs.declared.lends.Lent.{Lent}
+use Rattle.partmem_c.specs.declared.lent.Lent.{Lent}
 use Rattle.partmem_c.specs.declared.telling.ReplyNumbers.{ReplyNumbers}
 
 abbrev pub no_lent : Lent
-no_lent = record { at = null_ptr; place = 0; bytes = 0 }
+no_lent = record { at = null_ptr; place = 0; bytes = 0; tenant = 0 }
 
--- `lent` has this place and this number of bytes, and its address is not null
-pub record IsLentAt (place bytes : ℕ) (lent : Lent) : Type 0 where
+-- `lent` has this tenant, this place and this number of bytes, and its address is not null
+pub record IsLentAt (t place bytes : ℕ) (lent : Lent) : Type 0 where
+  pub owned : lent.tenant ≡ t
   pub begins : lent.place ≡ place
   pub counted : lent.bytes ≡ bytes
   pub somewhere : lent.at ≢ null_ptr
@@ -35,14 +36,14 @@ pub record IsLentAt (place bytes : ℕ) (lent : Lent) : Type 0 where
 
 -- `len` bytes from a place on, inside one live page block or one live object
 abbrev pub FindsRange : KernelContent → ℕ → ℕ → ℕ → Result Lent Refusal → Type 0
-FindsRange k t place len (Ok lent) = (t < k.tenants) × IsInReach k.space k.buddy k.slabs t place len × IsLentAt place len lent
+FindsRange k t place len (Ok lent) = (t < k.tenants) × IsInReach k.space k.buddy k.slabs t place len × IsLentAt t place len lent
 FindsRange k t place len (Err refusal) =
     IsNotLent k t (λ why. (why ≡ Refusal.OutOfReach) × ((m : Machine) → ShowsMachine k t m → in_reach m place len ≡ false)) refusal
 
 -- the whole live page block that contains a place
 abbrev pub FindsWholeBlock : KernelContent → ℕ → ℕ → Result Lent Refusal → Type 0
 FindsWholeBlock k t place (Ok lent) = (t < k.tenants)
-    × ((m : Machine) → ShowsMachine k t m → HasBlock m place lent.place lent.bytes) × IsLentAt lent.place lent.bytes lent
+    × ((m : Machine) → ShowsMachine k t m → HasBlock m place lent.place lent.bytes) × IsLentAt t lent.place lent.bytes lent
 FindsWholeBlock k t place (Err refusal) =
     IsNotLent k t (λ why. (why ≡ Refusal.OutOfReach)
     × ((m : Machine) → ShowsMachine k t m → IsTaken (order_in m.blocks) (place / FRAME_BYTES) → ⊥)) refusal
@@ -50,7 +51,7 @@ FindsWholeBlock k t place (Err refusal) =
 -- the cache's live object that begins at a place
 abbrev pub FindsObject : KernelContent → ℕ → ℕ → ℕ → Result Lent Refusal → Type 0
 FindsObject k t cache place (Ok lent) = (t < k.tenants)
-    × ((m : Machine) → ShowsMachine k t m → HasObject m cache place lent.bytes) × IsLentAt place lent.bytes lent
+    × ((m : Machine) → ShowsMachine k t m → HasObject m cache place lent.bytes) × IsLentAt t place lent.bytes lent
 FindsObject k t cache place (Err refusal) =
     IsNotLent k t (λ why. (m : Machine) → ShowsMachine k t m → give_body (give_step cache place m).answer ≡ Body.Refused why) refusal
 
@@ -62,7 +63,7 @@ alloc_reply k t outcome = reply_for k t (body_of (λ lent. Body.Frame (lent.plac
 -- the kernel ran an alloc of this order; unless the alloc was refused, its block is lent
 pub record AllocLends (old : KernelContent) (t order : ℕ) (new : KernelContent) (outcome : Result Lent Refusal) : Type 0 where
   pub steps : Steps old (Event.Tenant t (Command.Alloc order)) new (alloc_reply old t outcome)
-  pub block : IfOk outcome (λ lent. IsLentAt (FRAME_BYTES * (lent.place / FRAME_BYTES)) (FRAME_BYTES * 2 ^ order) lent)
+  pub block : IfOk outcome (λ lent. IsLentAt t (FRAME_BYTES * (lent.place / FRAME_BYTES)) (FRAME_BYTES * 2 ^ order) lent)
 
 abbrev pub take_reply : KernelContent → ℕ → Result Lent Refusal → Reply
 take_reply k t outcome = reply_for k t (body_of (λ lent. Body.Object lent.place) outcome)
@@ -74,21 +75,21 @@ IsObjectOf k t cache lent = lent.at ≢ null_ptr → (m : Machine) → ShowsMach
 -- the kernel ran a take from this cache; unless the take was refused, its object is lent
 pub record TakeLends (old : KernelContent) (t cache : ℕ) (new : KernelContent) (outcome : Result Lent Refusal) : Type 0 where
   pub steps : Steps old (Event.Tenant t (Command.Take cache)) new (take_reply old t outcome)
-  pub lent : IfOk outcome (λ lent. IsLentAt lent.place lent.bytes lent)
+  pub lent : IfOk outcome (λ lent. IsLentAt t lent.place lent.bytes lent)
   pub object : IfOk outcome (IsObjectOf new t cache)
 
--- if the condition is true, this number of bytes from the place on are lent; otherwise nothing is lent
-abbrev pub IsLentIf : Bool → ℕ → ℕ → Lent → Type 0
-IsLentIf true place bytes lent = IsLentAt place bytes lent
-IsLentIf false place bytes lent = lent ≡ no_lent
+-- if the condition is true, this number of bytes of the tenant from the place on are lent; otherwise nothing is lent
+abbrev pub IsLentIf : Bool → ℕ → ℕ → ℕ → Lent → Type 0
+IsLentIf true t place bytes lent = IsLentAt t place bytes lent
+IsLentIf false t place bytes lent = lent ≡ no_lent
 
--- an alloc lends the block in its reply, or nothing if the reply has no block
-abbrev pub IsBlockLent : ℕ → Option ReplyNumbers → Lent → Type 0
-IsBlockLent order None lent = lent ≡ no_lent
-IsBlockLent order (Some numbers) lent =
-    IsLentIf (numbers.kind == FRAME) (FRAME_BYTES * numbers.first) (FRAME_BYTES * 2 ^ order) lent
+-- an alloc lends the tenant the block in its reply, or nothing if the reply has no block
+abbrev pub IsBlockLent : (t order : ℕ) → Option ReplyNumbers → Lent → Type 0
+IsBlockLent t order None lent = lent ≡ no_lent
+IsBlockLent t order (Some numbers) lent =
+    IsLentIf (numbers.kind == FRAME) t (FRAME_BYTES * numbers.first) (FRAME_BYTES * 2 ^ order) lent
 
--- a take lends the object in its reply, or nothing if the reply has no object
-abbrev pub IsObjectLent : Option ReplyNumbers → Lent → Type 0
-IsObjectLent None lent = lent ≡ no_lent
-IsObjectLent (Some numbers) lent = IsLentIf (numbers.kind == OBJECT) numbers.first lent.bytes lent
+-- a take lends the tenant the object in its reply, or nothing if the reply has no object
+abbrev pub IsObjectLent : ℕ → Option ReplyNumbers → Lent → Type 0
+IsObjectLent t None lent = lent ≡ no_lent
+IsObjectLent t (Some numbers) lent = IsLentIf (numbers.kind == OBJECT) t numbers.first lent.bytes lent

@@ -1,43 +1,17 @@
 //! Lends bytes in place: C gets their address. The calls of this file change nothing, and are not events.
 
 ghost use Rattle.std.specs.Prelude.{◌≡◌};
-ghost use Rattle.std.specs.Borrow.{sem};
-ghost use Rattle.std.specs.Ptr.{as_mut_ptr};
-ghost use Rattle.kernel_core.specs.Lending.{IsLive, IsLent, LendsSpan};
 ghost use Rattle.partmem_c.specs.Finding.{LooksUp, Returns};
-ghost use Rattle.partmem_c.specs.Lends.{no_lent, IsLentAt, FindsRange, FindsWholeBlock, FindsObject};
+ghost use Rattle.partmem_c.specs.Lends.{no_lent, FindsRange, FindsWholeBlock, FindsObject};
 
+use crate::lent::{Lent, lent_of};
 use crate::machine_storage::MachineStorage;
 use crate::status::{DONE, NO_MACHINE};
-use kernel_core::{Kernel, Span};
+use kernel_core::Kernel;
 use std::alloc::Global;
-use std::ptr::null_mut;
 use words_core::Refusal;
 
-/// Lent bytes: the address and the place of the first byte, and the number of bytes. All zero if nothing is lent.
-#[repr(C)]
-#[derive(Clone, Copy)]
-pub struct Lent {
-    pub at: *mut u8,
-    pub place: u32,
-    pub bytes: u32,
-}
-
-impl Lent {
-    /// Returns the value that means that nothing is lent. It is all zero.
-    #[inline(always)]
-    pub fn none() -> Lent
-        ensures { result ≡ no_lent }
-    {
-        Lent {
-            at: null_mut(),
-            place: 0,
-            bytes: 0,
-        }
-    }
-}
-
-/// Stores in `to` the address, the place and the number of the lent bytes, or zeros if the call is refused. Returns the status.
+/// Stores in `to` what is lent, or zeros if the call is refused. Returns the status.
 ///
 /// Callers do not set `to` to zeros first, since each call that succeeds would then write `to` twice.
 #[inline(always)]
@@ -54,45 +28,6 @@ pub(crate) fn put_lent(outcome: Result<Lent, Refusal>, to: &mut Lent) -> u32
             u32::from(refusal.number())
         }
     }
-}
-
-/// Lends the bytes of a span, and returns their address, place and number.
-#[inline(always)]
-pub(crate) fn lent_of(kernel: &mut Kernel, span: Span) -> Lent
-    requires { IsLive kernel.old span }
-    ensures lent { IsLentAt span.place span.bytes result }
-    ensures kept { kernel.new ≡ kernel.old }
-{
-    let mut lent = Lent::none();
-    lend_at(kernel, span, &mut lent);
-    lent
-}
-
-/// Lends the bytes of a span as a slice, and stores their address, place and number in `lent`.
-#[inline(always)]
-fn lend_at<'a>(kernel: &'a mut Kernel, span: Span, lent: &mut Lent) -> &'a mut [u8]
-    requires { IsLive kernel.old span }
-    ensures* writes_back { sem 𝓛 (LendsSpan kernel.entry span result) }
-    ensures bytes { IsLent kernel.old span.tenant span.place span.bytes result.now }
-    ensures address { lent.new.at ≡ as_mut_ptr result }
-    ensures lent { IsLentAt span.place span.bytes lent.new }
-{
-    let bytes = kernel.lend(span);
-    *lent = Lent {
-        at: first_of(bytes),
-        place: span.place,
-        bytes: span.bytes,
-    };
-    bytes
-}
-
-/// Returns the address of the first byte of a slice.
-#[inline(always)]
-fn first_of(bytes: &mut [u8]) -> *mut u8
-    ensures address { result ≡ as_mut_ptr bytes.entry }
-    ensures kept { bytes.new ≡ bytes.old }
-{
-    bytes.as_mut_ptr()
 }
 
 /// Lends `bytes` bytes from `place` on. They must be one or more bytes inside one live page block or one live object.

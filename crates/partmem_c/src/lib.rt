@@ -23,6 +23,7 @@ mod kernel_cell;
 pub mod kinds;
 pub mod laws;
 pub mod lends;
+pub mod lent;
 pub mod lines;
 pub mod lookups;
 pub mod machine_storage;

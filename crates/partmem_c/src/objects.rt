@@ -11,7 +11,8 @@ ghost use Rattle.partmem_c.specs.Lends.{IsObjectLent, IsObjectOf, TakeLends};
 use crate::calls::{block_bytes, call_status, run_command};
 use crate::events::status_of_none;
 use crate::kinds::{MADE, REAPED};
-use crate::lends::{Lent, lent_of, put_lent};
+use crate::lends::put_lent;
+use crate::lent::{Lent, lent_of};
 use crate::machine_storage::MachineStorage;
 use crate::status::{DONE, NO_MACHINE};
 use crate::telling::ReplyNumbers;
@@ -103,7 +104,7 @@ pub extern "C" fn partmem_take(
     object: &mut Lent,
 ) -> u32
     ensures runs { RunsCall machine.old.cell.held (Tenant tenant (Take cache)) machine.new.cell.held
-        (λ reply. (result ≡ call_status (numbers_in_reply reply)) × IsObjectLent (numbers_in_reply reply) object.new) }
+        (λ reply. (result ≡ call_status (numbers_in_reply reply)) × IsObjectLent tenant (numbers_in_reply reply) object.new) }
     ensures object { IfSome machine.new.cell.held (λ k. IsObjectOf k tenant cache object.new) }
 {
     let Some(kernel) = machine.kernel() else {

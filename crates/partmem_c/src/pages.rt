@@ -7,7 +7,8 @@ ghost use Rattle.partmem_c.specs.Calls.{RunsCall, numbers_in_reply, call_status,
 ghost use Rattle.partmem_c.specs.Lends.{IsBlockLent, AllocLends};
 
 use crate::calls::{call_status, run_command};
-use crate::lends::{Lent, lent_of, put_lent};
+use crate::lends::put_lent;
+use crate::lent::{Lent, lent_of};
 use crate::machine_storage::MachineStorage;
 use crate::status::NO_MACHINE;
 use kernel_core::Kernel;
@@ -30,7 +31,7 @@ pub extern "C" fn partmem_alloc(
     block: &mut Lent,
 ) -> u32
     ensures { RunsCall machine.old.cell.held (Tenant tenant (Alloc order)) machine.new.cell.held
-        (λ reply. (result ≡ call_status (numbers_in_reply reply)) × IsBlockLent order (numbers_in_reply reply) block.new) }
+        (λ reply. (result ≡ call_status (numbers_in_reply reply)) × IsBlockLent tenant order (numbers_in_reply reply) block.new) }
 {
     let Some(kernel) = machine.kernel() else {
         *block = Lent::none();

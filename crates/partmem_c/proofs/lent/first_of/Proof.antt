@@ -15,9 +15,9 @@ use denote.Signature.{plain, types_at}
 use denote.Triple.Entry.{alive}
 use denote.Triple.Walked.{Stays, walk_of, says, stay_slice, Goes-slice, ends_at}
 use Rattle.std.proofs.mem.Facts.{says_two}
-use Rattle.partmem_c.specs.contracts.lends.first_of as f
-use Rattle.partmem_c.proofs.lends.first_of.Statement.{statement}
-use Rattle.partmem_c.proofs.lends.first_of.Code as code
+use Rattle.partmem_c.specs.contracts.lent.first_of as f
+use Rattle.partmem_c.proofs.lent.first_of.Statement.{statement}
+use Rattle.partmem_c.proofs.lent.first_of.Code as code
 
 abbrev stayed : Stays f.ended.signature.params f.ended.kept
 stayed = (stay_slice (0 ∷ []) tt (plain (λ _. u8)), tt)
