@@ -5,7 +5,7 @@ LIBDIR ?= lib
 # How many tests and proofs run at a time: one for each processor that `make` may run on.
 JOBS ?= $(shell nproc)
 PROGRAMS := partmem framemap partcheck
-# The tests, by what they need. A script prints which tools are missing, and skips what needs them. tests/tools lists all tools.
+# The tests, by what they need. A script prints which tools are missing, and skips what needs them. tests/packages lists all tools.
 #   nothing that was built; refused-growths and pasted-first build without proofs:
 FROM_SOURCES := structure documents diagrams pages witnesses edits helps refused-growths pasted-first
 #   the programs that `rt ci` built:
@@ -30,7 +30,7 @@ prove: ## proves all crates and builds the programs, without tests
 	    (cd crates/$$name && rt run -- --version) >&2 && crates/$$name/out/$$name --version || exit 1; \
 	done
 test: ## proves everything, tries the wrong bodies, and runs all tests
-	tests/verdict $(ANEW)
+	tests/proofs $(ANEW)
 	$(MAKE) -j$(JOBS) --output-sync=target check
 check: tools $(CHECKS) ## runs all tests over what `rt ci` has proved
 library: proved ## builds the library for C from what `rt ci` has proved
@@ -47,7 +47,7 @@ soak: ## runs random pairs of traces for ten minutes, and compares the replies t
 	tests/soak/run
 
 tools: ; @tests/missing-tools
-proved: ; @tests/verdict --still
+proved: ; @tests/proofs --still
 $(addprefix check-,$(OVER_PROGRAMS)): proved
 $(addprefix check-,$(OVER_LIBRARY)): library
 # Scripts run without the variables of this `make`. A `make` that they run would otherwise print the folders that it enters.

@@ -17,7 +17,7 @@ DECLARED = re.compile(r"^(?!PARTMEM_INLINE)[a-zP][^*(\n]*\*?(partmem_\w+)\(", re
 # The flags with which code for an archive is compiled.
 CODE = ["-march=x86-64-v2", "-ffunction-sections", "-fPIE", "-O2"]
 # The functions of string.h that libpartmem_watched.a has itself, and the C file that defines them.
-OWN_FUNCTIONS, OF_WATCHED = ["memcpy", "memmove", "memset"], "unseen.c"
+OWN_FUNCTIONS, OF_WATCHED = ["memcpy", "memmove", "memset"], "uninstrumented.c"
 # The parts of standard headers that partmem.h, partmem_heap.h and the functions in C use. The kit's clang has no standard
 # headers.
 HEADERS = {

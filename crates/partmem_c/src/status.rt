@@ -1,5 +1,6 @@
 //! The statuses that the functions for C return. Refusals have the numbers of the trace format, 1 to 15; errors have numbers from
-//! 32 on.
+//! 32 on. Two are not here, since only functions in C return them: 35 (`PARTMEM_BAD_MEMORY`, from `partmem_boot_in` and
+//! `partmem_heap_init`) and 38 (`PARTMEM_NOT_HELD`, from `partmem_find_place`).
 
 /// The call was done.
 pub const DONE: u32 = 0;
