@@ -29,6 +29,22 @@ for name in "$@"; do
     esac
 done
 """
+# Stands in for tools/unproved in clones whose pages build the same: the first that asks for a program or a library builds it, and the
+# others get a copy.
+SHARED = r"""#!/bin/sh
+cd "$(dirname "$0")/.." && mkdir -p out BUILDS
+for name in "$@"; do
+    flock "BUILDS/$name.lock" sh -euc '
+        [ -e BUILDS/$1 ] || { tools/unproved-itself "$1" && mkdir BUILDS/$1.new
+            case $1 in
+                library) cp out/libpartmem-unproved.a out/libpartmem_watched-unproved.a BUILDS/$1.new ;;
+                linux | kernel) cp "out/libpartmem_$1-unproved.a" BUILDS/$1.new ;;
+                *) cp "out/$1-unproved" BUILDS/$1.new ;;
+            esac
+            mv BUILDS/$1.new BUILDS/$1; }
+        cp BUILDS/$1/* out' sh "$name" || exit
+done
+"""
 # Stands in for tools/library if its archives are built: it does nothing.
 LIBRARY = "#!/bin/sh\n"
 
@@ -65,6 +81,13 @@ def write_script(path, text):
     with open(path, "w", encoding="utf-8") as script:
         script.write(text)
     os.chmod(path, 0o755)
+
+
+def with_shared_builds(folder, builds):
+    """Replaces tools/unproved by a stand-in that builds each program once for all clones that share the folder `builds`."""
+    os.rename(os.path.join(folder, "tools/unproved"), os.path.join(folder, "tools/unproved-itself"))
+    write_script(os.path.join(folder, "tools/unproved"), SHARED.replace("BUILDS", builds))
+    subprocess.run(["git", "-C", folder, "add", "tools"], check=True)
 
 
 def with_stand_ins(work, folder):
