@@ -15,7 +15,7 @@ OVER_PROGRAMS := hostile-bytes refused-memory instructions conformance plain-mac
 OVER_LIBRARY := same-path kernel-archives objtool in-place heap watched cpp use-from-c pasted demo-kernel linux rust \
     costs stack install
 CHECKS := $(addprefix check-,$(FROM_SOURCES) $(OVER_PROGRAMS) $(OVER_LIBRARY))
-.PHONY: list try unproved quick prove test check tools proved library install uninstall release bench soak $(CHECKS)
+.PHONY: list list-tests try unproved quick prove test check tools proved library install uninstall release bench soak $(CHECKS)
 
 list: ; @sed -n "s/^\([a-z-]*\):[^#]*## /make \1\t/p" Makefile | expand -t 18
 try: ## runs partmem on an example, without proofs (2 minutes)
@@ -24,6 +24,8 @@ unproved: ## builds the programs and the library for C without proofs (2 minutes
 	tools/unproved $(PROGRAMS) library
 quick: ## runs the tests that need no proof, over builds without proofs (16 minutes)
 	$(AS_A_USER) tests/quick
+list-tests: ## lists the tests, each with the first line of its comment
+	@awk 'FNR == 2 { sub(/^(# |""")/, ""); print FILENAME "\t" $$0 }' tests/*/run tests/{proofs,quick,more-edits} | expand -t 28
 prove: ## proves all crates and builds the programs, without tests
 	@rt all check --jobs $(JOBS) >&2
 	@for name in $(PROGRAMS); do \
