@@ -130,10 +130,10 @@ extern "C" {
  * NO_MACHINE and then for NO_TENANT, before what they list. Only partmem_write and partmem_make_cache test the number of bytes
  * between the two. */
 typedef enum partmem_status {
-    PARTMEM_DONE = 0,
+    PARTMEM_DONE = 0, /* the call was done */
 
     /* refusals */
-    PARTMEM_NO_FRAMES = 1,      /* no free block is large enough, even if empty slabs were given back */
+    PARTMEM_NO_FRAMES = 1,      /* no free block is large enough, even if empty slabs were freed */
     PARTMEM_BAD_ORDER = 2,      /* the order is larger than a superblock's */
     PARTMEM_NOT_A_BLOCK = 3,    /* no live page block begins at the place */
     PARTMEM_OUT_OF_REACH = 4,   /* 0 bytes, or bytes that are not inside one live page block or one live object */
@@ -151,8 +151,8 @@ typedef enum partmem_status {
 
     /* errors: mistakes of the caller, and NO_MEMORY */
     PARTMEM_NO_MACHINE = 32,       /* no machine was booted here, or it has ended */
-    PARTMEM_HAS_MACHINE = 33,      /* there is a machine already, which stays */
-    PARTMEM_BAD_CONFIG = 34,       /* a number of the partmem_config, or of a heap's, is out of range */
+    PARTMEM_HAS_MACHINE = 33,      /* there is a machine here already, which stays as it is */
+    PARTMEM_BAD_CONFIG = 34,       /* a number in a partmem_config or a partmem_heap_config is out of range */
     PARTMEM_BAD_MEMORY = 35,       /* the RAM or the tables are NULL, or not aligned; or a heap with runs has no slots in a row */
     PARTMEM_NO_MEMORY = 36,        /* an allocation failed */
     PARTMEM_NO_SUPERBLOCK = 37,    /* the machine has no superblock of that number */
