@@ -55,20 +55,8 @@
  * ALIGNMENT. RAM begins on a page, so an address has the alignment of its place up to 4096 bytes: page blocks and their frames
  * begin on pages, and an object of alignment 64 lies at a multiple of 64.
  *
- * LONGEST CALLS, in microseconds, the least of 9 runs, of a tenant that holds a whole machine (for a move, all but one
- * superblock), on a busy 2.5 GHz Xeon:
- *
- *     order, RAM                                           4, 1 MiB  4, 16 MiB  6, 64 MiB  8, 64 MiB  8, 256 MiB
- *     reap or destroy, or alloc or take that has to reap,
- *     every frame in an empty slab                               27       2400      14000      14000       56000
- *     reap of 64 empty slabs of 32 KiB (32 in 1 MiB)             20         70        149        134         157
- *     alloc that is refused, with empty slabs everywhere          3         46        106         31         245
- *     reset, a slab in each frame                                 2         30        116        114         438
- *     move                                                        4         14         60        222         236
- *     first lend or write in a superblock after its grant         2          9         37        136         134
- *     take that makes a slab                                      2          4          6          6           7
- *
- * An alloc or take that finds a block only in frames of empty slabs first zeroes all empty slabs of the tenant. A kernel that
+ * LONGEST CALLS. An alloc or take that finds a block only in frames of empty slabs first zeroes all empty slabs of the tenant.
+ * docs/PERF.md of the sources has the times of this and of other long calls, and bench/run --longest measures them. A kernel that
  * cannot wait so long uses a small order, and tenants with few slots. It reaps a tenant after every 64 of the tenant's gives,
  * since only a give empties a slab; when it reaps may depend only on that tenant's calls. It reaps in the tenant's own time
  * slice. This helps only if the kernel can interrupt a call: Linux with preempt=full can; with preempt=voluntary or
