@@ -2,10 +2,14 @@
 
 A tenant's own list is its commands, and the administrator's grants, take-backs and resets for it that are not refused. Only the
 mixed trace has moves, `admin pool`, broken lines, refused grants and take-backs, and the commands of the other tenants. Each line
-depends on the library's replies to the lines before, so the traces use the frames and places that the library returns. A command
-is followed if tests/same-path/run compares its instructions. The same seed makes the same traces.
+depends on the library's replies to the lines before, so the traces use the frames and places that the library returns. The
+`World` of conformance/ keeps what the replies said. A command is followed if tests/same-path/run compares its instructions. The
+same seed makes the same traces.
 """
 import random
+
+from checking.words import FRAME_BYTES, Sizes
+from checking.world import World
 
 # The numbers of the tenants' commands in partmem.h.
 KINDS = dict(zip("alloc free read write cache destroy take give reap report".split(), range(6, 16)))
@@ -14,27 +18,33 @@ FILLING = dict(zip(KINDS, (20, 5, 14, 14, 4, 2, 34, 10, .3, 1)))
 EMPTYING = FILLING | {"alloc": 4, "free": 20, "take": 8, "give": 34, "reap": .6}
 ADMIN = {"grant": 5, "takeback": 8, "reset": 4, "move": 12, "pool": 1, "broken": 4}
 BROKEN = ("0 alloc", "1 frob 2", "# nothing", "", "99 alloc 0", "0 alloc 4294967296", "0 write 0 abc", "admin grant", "0" * 300)
-FRAME_BYTES = 4096
 # EVENTS is the share of the followed commands that are passed as numbers, about half of them as events and half as direct calls.
 # WHOLE is the share that is followed into the C library too.
 EVENTS, WHOLE = .7, .06
 
 
+def some(draw, bag):
+    """Returns a number from a bag, or 0 if the bag is empty."""
+    return draw.choice(list(bag.known)) if bag else 0
+
+
 class Tenant:
-    """What a tenant holds, by the replies to its commands."""
+    """Draws the commands of a tenant."""
 
-    def __init__(self, number, order):
-        self.number, self.order, self.is_filling, self.slots = number, order, True, set()
-        self.clear()
+    def __init__(self, number, world):
+        self.number, self.world, self.is_filling = number, world, True
 
-    def clear(self):
-        self.blocks, self.caches, self.objects = {}, {}, []
+    @property
+    def held(self):
+        """What the tenant holds."""
+        return self.world.tenants[self.number]
 
     def place(self, draw, count):
         """Returns a place in one of the tenant's blocks or objects, from which `count` bytes are in reach unless the block or
         object is smaller. Returns any place if the tenant has neither."""
-        rooms = [(frame * FRAME_BYTES, FRAME_BYTES << order) for frame, order in self.blocks.items()]
-        rooms += [(place, self.caches[cache]) for cache, place in self.objects]
+        held = self.held
+        rooms = [(frame * FRAME_BYTES, FRAME_BYTES << order) for frame, order in held.pages.known.items()]
+        rooms += [(place, held.caches.get(cache).size) for place, cache in held.objects.known.items()]
         start, room = draw.choice(rooms) if rooms else (draw.randrange(2**16), count)
         return start + draw.randrange(max(1, room - count + 1))
 
@@ -44,70 +54,56 @@ class Tenant:
             self.is_filling = not self.is_filling
         weights = FILLING if self.is_filling else EMPTYING
         kind = draw.choices(list(weights), weights.values())[0]
-        if kind == "free" and not self.blocks:
+        if kind == "free" and not self.held.pages:
             kind = "alloc"
-        if kind == "give" and not self.objects:
+        if kind == "give" and not self.held.objects:
             kind = "take"
-        if kind == "take" and not self.caches:
+        if kind == "take" and not self.held.caches:
             kind = "cache"
         if draw.random() < 1 / 12:
             return [kind, *self.faulty(kind, draw)]
         return [kind, *self.sound(kind, draw)]
 
     def sound(self, kind, draw):
-        cache = draw.choice(list(self.caches)) if self.caches else 0
+        cache = some(draw, self.held.caches)
         if kind == "alloc":
-            return [draw.choices(range(self.order + 1), [2.0 ** -k for k in range(self.order + 1)])[0]]
+            orders = range(self.world.sizes.order + 1)
+            return [draw.choices(orders, [2.0 ** -k for k in orders])[0]]
         if kind == "free":
-            return [draw.choice(list(self.blocks)) if self.blocks else 0]
+            return [some(draw, self.held.pages)]
         if kind in ("read", "write"):
             count = draw.choice((1, 8, 64, draw.randint(1, 64)))
             return [self.place(draw, count), count if kind == "read" else draw.randbytes(count).hex()]
         if kind == "cache":
             return [draw.choice((16, 24, 100, 256, 700, 1500, 3000, 6000)), 8, draw.randbytes(draw.choice((1, 4, 16))).hex()]
         if kind == "give":
-            return draw.choice(self.objects) if self.objects else (0, 0)
+            place = some(draw, self.held.objects)
+            return [self.held.objects.get(place, 0), place]
         return [cache] if kind in ("destroy", "take") else []
 
     def faulty(self, kind, draw):
         """Returns arguments with which the command is refused in most cases."""
-        some = draw.choice((0, 7, 33, 4097, 2**20, 2**32 - 1))
+        wrong = draw.choice((0, 7, 33, 4097, 2**20, 2**32 - 1))
         if kind in ("read", "write"):
             count = draw.choice((0, 1, 64, 65, 2**32 - 1)) if kind == "read" else draw.choice((1, 64))
-            return [draw.choice((some, self.place(draw, 1))), count if kind == "read" else "5a" * count]
+            return [draw.choice((wrong, self.place(draw, 1))), count if kind == "read" else "5a" * count]
         if kind == "cache":
             return [draw.choice((0, 8, 2**20)), draw.choice((0, 3, 8, 4096)), "00"]
         if kind == "give":
-            cache, place = draw.choice(self.objects) if self.objects else (0, 0)
-            return draw.choice(((cache, place + 1), (cache + 1, place), (cache, some)))
-        return [some] if kind in ("alloc", "free", "destroy", "take") else []
-
-    def learn(self, words, reply):
-        """Updates what the tenant holds by the reply to a command."""
-        said = reply.split()
-        if said[1] == "frame":
-            self.blocks[int(said[2])] = words[1]
-        elif said[1] == "freed":
-            del self.blocks[words[1]]
-        elif said[1] == "cache" and words[0] == "cache":
-            self.caches[int(said[2])] = words[1]
-        elif said[1] == "destroyed":
-            del self.caches[words[1]]
-        elif said[1] == "object":
-            self.objects.append((words[1], int(said[2])))
-        elif said[1] == "given":
-            self.objects.remove((words[1], words[2]))
+            place = some(draw, self.held.objects)
+            cache = self.held.objects.get(place, 0)
+            return draw.choice(((cache, place + 1), (cache + 1, place), (cache, wrong)))
+        return [wrong] if kind in ("alloc", "free", "destroy", "take") else []
 
 
 class Pair:
     """The rows of a mixed trace and of each tenant's own trace, in the form that same_path.c reads."""
 
     def __init__(self, machine, commands, seed, ask):
-        self.machine, self.ask = machine, ask
+        self.machine, self.ask, self.world = machine, ask, World(Sizes(*machine))
         self.draw = random.Random(f"same path {machine} {seed}")
-        order, superblocks, tenants = machine
-        self.tenants = [Tenant(t, order) for t in range(tenants)]
-        self.mixed, self.alone = [], [[] for _ in range(tenants)]
+        self.tenants = [Tenant(t, self.world) for t in range(self.world.sizes.tenants)]
+        self.mixed, self.alone = [], [[] for _ in self.tenants]
         # For each command that is followed in the mixed trace: its tenant, its text and its first reply.
         self.followed = []
         self.run(commands)
@@ -125,14 +121,19 @@ class Pair:
     def grant_all(self, count):
         """Grants each tenant this many superblocks."""
         for _ in range(count):
-            for tenant in self.tenants:
-                self.grant(tenant.number)
+            for t in range(len(self.tenants)):
+                self.own(t, f"admin grant {t}")
+
+    def reply(self, line):
+        """Returns the first line of the library's reply to a line."""
+        replies = self.ask(line)
+        self.world.note(line, replies)
+        return replies[0]
 
     def command(self, tenant, words):
         """Adds a tenant's command as a followed row to the mixed trace and to the tenant's own trace."""
         line = " ".join(map(str, [tenant.number, *words]))
-        reply = self.ask(line)[0]
-        tenant.learn(words, reply)
+        reply = self.reply(line)
         is_whole, is_event = self.draw.random() < WHOLE, self.draw.random() < EVENTS
         row = ("*" if is_whole else "+") + line
         if is_event:
@@ -144,48 +145,35 @@ class Pair:
         self.alone[tenant.number].append(row)
         self.followed.append((tenant.number, line, reply))
 
-    def own(self, tenant, line, is_done):
-        """Adds a line that is not followed to the mixed trace, and to the tenant's own trace if `is_done` is true of the reply.
-        Returns the words of the reply."""
-        reply = self.ask(line)[0]
+    def own(self, t, line):
+        """Adds a line that is not followed to the mixed trace. Adds it to the own trace of tenant `t` too, unless it is a refused
+        line of the administrator."""
+        is_refused = "admin> refused" in self.reply(line)
         self.mixed.append("." + line)
-        if is_done(reply):
-            self.alone[tenant.number].append("." + line)
-        return reply.split()
+        if not is_refused:
+            self.alone[t].append("." + line)
 
     def at_full_speed(self, tenant, words):
         """Adds a tenant's command that is not followed."""
-        reply = self.own(tenant, " ".join(map(str, [tenant.number, *words])), lambda reply: True)
-        tenant.learn(words, " ".join(reply))
-
-    def grant(self, t):
-        said = self.own(self.tenants[t], f"admin grant {t}", lambda reply: "granted" in reply)
-        if said[1] == "granted":
-            self.tenants[t].slots.add(int(said[4]))
+        self.own(tenant.number, " ".join(map(str, [tenant.number, *words])))
 
     def others(self):
         """Adds a line that no tenant gives: one of the administrator, or a broken one."""
         kind = self.draw.choices(list(ADMIN), ADMIN.values())[0]
         tenant = self.draw.choice(self.tenants)
-        slot = self.draw.choice([*tenant.slots, 0])
-        if kind == "grant":
-            self.grant(tenant.number)
-        elif kind == "takeback":
-            said = self.own(tenant, f"admin takeback {tenant.number} {slot}", lambda reply: "taken" in reply)
-            if said[1] == "taken":
-                tenant.slots.remove(slot)
-        elif kind == "reset":
-            self.own(tenant, f"admin reset {tenant.number}", lambda reply: "reset" in reply)
-            tenant.slots.clear()
-            tenant.clear()
-            self.grant(tenant.number)
+        t, slot = tenant.number, self.draw.choice([*sorted(tenant.held.slots.keys), 0])
+        if kind == "takeback":
+            self.own(t, f"admin takeback {t} {slot}")
+        elif kind in ("grant", "reset"):
+            self.own(t, f"admin {kind} {t}")
+            if kind == "reset":
+                self.own(t, f"admin grant {t}")
         else:
-            line = {"pool": "admin pool", "move": f"admin move {tenant.number} {slot}"}.get(kind) or self.draw.choice(BROKEN)
-            self.foreign(line)
+            self.foreign({"pool": "admin pool", "move": f"admin move {t} {slot}"}.get(kind) or self.draw.choice(BROKEN))
 
     def foreign(self, line):
         """Adds a line to the mixed trace only, since it is in no tenant's own list."""
-        self.ask(line)
+        self.reply(line)
         self.mixed.append("." + line)
 
 
@@ -209,7 +197,7 @@ class LongPair(Pair):
         while len(self.followed) < commands:
             tenant = self.draw.choice(self.tenants)
             if self.draw.random() < .02:
-                self.foreign(f"admin move {tenant.number} {self.draw.choice(list(tenant.slots))}")
+                self.foreign(f"admin move {tenant.number} {self.draw.choice(sorted(tenant.held.slots.keys))}")
                 continue
             words = next(self.draw.choice(turns[tenant.number]))
             if self.draw.random() < .1:
@@ -233,7 +221,7 @@ class LongPair(Pair):
         """Yields the commands on a cache of a tenant, for ever."""
         while True:
             slabs = {}
-            for of, place in tenant.objects:
+            for place, of in tenant.held.objects.known.items():
                 if of == cache:
                     slabs.setdefault(place // FRAME_BYTES, []).append(place)
             order = {frame >> self.machine[0]: self.draw.random() for frame in slabs}
