@@ -21,8 +21,13 @@ function pick(words,    n, all) {
     return all[draw(n) + 1]
 }
 
+# Returns a character of a text, also a blank or a tab, at which `pick` would split.
+function letter(text) {
+    return substr(text, draw(length(text)) + 1, 1)
+}
+
 function hex(bytes,    text) {
-    while (bytes-- > 0) text = text substr("0123456789abcdefABCDEF", draw(22) + 1, 1) substr("0123456789abcdef", draw(16) + 1, 1)
+    while (bytes-- > 0) text = text letter("0123456789abcdefABCDEF") letter("0123456789abcdef")
     return text
 }
 
@@ -85,8 +90,8 @@ function far() {
 function broken_line(    kind, text, n) {
     kind = draw(8)
     if (kind == 0) { n = draw(300); while (n-- > 0) text = text sprintf("%c", 11 + draw(245)); return (text ~ /^[ 0a]/ ? "~" : "") text }
-    if (kind == 1) { n = draw(300); text = "0 alloc"; while (n-- > 0) text = text pick("0 1 # \t x") " "; return "\377" text }
-    if (kind == 2) return pick("frob # #0 admin 0 \r") pick(" \t  \r")
+    if (kind == 1) { n = draw(300); text = "0 alloc"; while (n-- > 0) text = text letter("01#\tx") " "; return "\377" text }
+    if (kind == 2) return pick("frob # #0 admin 0 \r") letter("\t\r")
     if (kind == 3) return "admin " pick("grant reset takeback move pool") " " far() " x"
     if (kind == 4) return 64 + draw(9) " " pick("alloc free take destroy") " " far()
     if (kind == 5) return "admin takeback 0 " 256 + draw(2147480000)
