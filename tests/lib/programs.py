@@ -49,4 +49,6 @@ def closed_pipe():
 def random_trace(**numbers):
     """Returns the trace that tests/soak/traces.awk draws with these numbers."""
     words = [word for name, number in numbers.items() for word in ("-v", f"{name}={number}")]
-    return subprocess.run(["awk", *words, "-f", f"{TOP}/tests/soak/traces.awk"], stdout=subprocess.PIPE, check=True).stdout
+    # In other locales gawk writes a character above 127 as two bytes.
+    command = ["env", "LC_ALL=C", "awk", *words, "-f", f"{TOP}/tests/soak/traces.awk"]
+    return subprocess.run(command, stdout=subprocess.PIPE, check=True).stdout
