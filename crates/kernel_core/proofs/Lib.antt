@@ -16,8 +16,11 @@ pub mod ByteHolders
 pub mod CacheCalls
 pub mod FrameKinds
 pub mod Stores
+pub mod OneHolder
+pub mod ShownWellFormed
 pub mod Actions
 pub mod MadeKernels
 pub mod WitnessesActions
+pub mod WitnessesHolders
 pub mod Witnesses
 pub mod ReportFigures

@@ -4,7 +4,8 @@
 -- and stores its own bytes. Tenant 1 stores once more before tenant 0 loads.
 use Rattle.std.proofs.Common.{◌≡◌, ℕ, List, [], ◌∷◌, Some, None, refl, ◌∙◌, arith, length, ◌<◌, position, is_none}
 use Rattle.std.specs.Prelude.{replicate}
-use Rattle.model_core.specs.Machine.{empty_machine}
+use Rattle.model_core.specs.Machine.{Machine, empty_machine}
+use Rattle.model_core.specs.WellFormed.{IsWellFormed}
 use Rattle.words_core.specs.declared.event.Event.TheVariants as On
 use Rattle.words_core.specs.declared.event.AdminCommand.TheVariants as Do
 use Rattle.words_core.specs.declared.event.Command.TheVariants as Command
@@ -22,8 +23,9 @@ use Rattle.kernel_core.specs.Content.{KernelContent, content_of}
 use Rattle.kernel_core.specs.Shows.{Shows, OneWorld}
 use Rattle.kernel_core.specs.Steps.{Steps}
 use Rattle.kernel_core.specs.Stores.{IsKernel, Stores, Loads, StoresAreWrites, LoadsAreOwn}
+use Rattle.kernel_core.specs.Holders.{ShownWellFormed}
 use Rattle.kernel_core.specs.Actions.{Action, Runs, StoresAt, LoadsAt, Acts, AllAct, Sight, Told, Loaded, sights_of, Own, Enters, Stored, LoadedAt, own_seen, OwnSights, SameSights}
-use Rattle.kernel_core.proofs.Actions.{booted_has, all_follow}
+use Rattle.kernel_core.proofs.Actions.{Has, booted_has, all_follow}
 use Rattle.kernel_core.proofs.Granting.{IsGrantable, granted_reply}
 use Rattle.kernel_core.proofs.MadeKernels.{to_tenant, grant_acts, alloc_acts, read_acts, in_frame, holders, holders_laws, chosen, opened_space, no_slabs, opened, is_opened}
 use Rattle.kernel_core.proofs.Stores.{stores_are_writes}
@@ -223,15 +225,22 @@ StoresAreWrites-met : StoresAreWrites →
     Steps alone_2 (On.Tenant 0 (Command.Write 5 (record { items = bytes }))) alone_3 (record { addressee = To.Tenant 0; body = Written 100 })
 StoresAreWrites-met law = (law alone_2 alone_3 0 5 bytes alone_taken.1 alone_stored).1
 
-LoadsAreOwn-met : LoadsAreOwn →
-    (own_seen cache_limit 3 (Enters Grant ∷ Enters (Ask (Command.Alloc 0)) ∷ Stored 5 bytes ∷ []) empty_machine).machine.bytes 104 ≡ Some 7
-LoadsAreOwn-met law =
+-- the private machine after tenant 0 has stored the 100 bytes
+abbrev pub written : Machine
+written = (own_seen cache_limit 3 (Enters Grant ∷ Enters (Ask (Command.Alloc 0)) ∷ Stored 5 bytes ∷ []) empty_machine).machine
+
+alone_has : Has alone_3 0 written
+alone_has =
     let first : List Action =
     Runs (On.Admin (Do.Grant 0)) (granted_reply 0 0 0) ∷ Runs (On.Tenant 0 (Command.Alloc 0)) (to_tenant 0 (Frame 0)) ∷ StoresAt 0 5 bytes ∷ [] in
-    let has =
     (all_follow opened alone_3 first 0 empty_machine (booted_has opened 2 2 0 is_opened (omega arith))
-    (alone_1, alone_granted, (alone_2, alone_taken, (alone_3, alone_stored, refl)))).has in
-    law alone_3 has.world _ 0 104 7 has.kernel has.shows has.machine alone_loaded
+    (alone_1, alone_granted, (alone_2, alone_taken, (alone_3, alone_stored, refl)))).has
+
+ShownWellFormed-met : ShownWellFormed → IsWellFormed 32 3 written
+ShownWellFormed-met law = law alone_3 0 written alone_kernel (omega arith) (alone_has.shows.machines 0 written alone_has.machine)
+
+LoadsAreOwn-met : LoadsAreOwn → written.bytes 104 ≡ Some 7
+LoadsAreOwn-met law = law alone_3 alone_has.world written 0 104 7 alone_has.kernel alone_has.shows alone_has.machine alone_loaded
 
 -- with each of the two lists of actions, tenant 0 sees the sights `seen`, and its own list is `own_list`
 abbrev seen : List Sight

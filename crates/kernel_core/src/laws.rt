@@ -2,6 +2,7 @@
 //! needs the law calls the function.
 
 ghost use Rattle.kernel_core.specs.Actions.{OwnSights, SameSights};
+ghost use Rattle.kernel_core.specs.Holders.{OneHolder, ShownWellFormed};
 ghost use Rattle.kernel_core.specs.Shows.{OneWorld};
 ghost use Rattle.kernel_core.specs.Stores.{IsKernel, StoresAreWrites, LoadsAreOwn};
 
@@ -30,6 +31,18 @@ pub fn is_kernel(kernel: &Kernel)
 {
     kernel.laws();
 }
+
+/// At every moment, the machine that a kernel shows for one of its tenants is well formed. So the laws of well formed machines hold
+/// for it, such as [`objects_apart`] and [`one_holder`].
+pub fn shown_well_formed()
+    ensures { ShownWellFormed }
+{}
+
+/// In a well formed machine, exactly one live page block or live object has a byte that is in reach, and none has a byte that is
+/// not in reach.
+pub fn one_holder()
+    ensures { OneHolder }
+{}
 
 /// If only bytes inside one live page block or one live object of a tenant change, the tenant's `write` of these bytes makes the
 /// same change, and its reply is that all of them were written. This holds even if there are more bytes than a `write` can have.
