@@ -1,7 +1,8 @@
 -- Whatever the actions are, a tenant sees what its private machine gives for the tenant's own list.
-use Rattle.std.proofs.Common.{◌≡◌, ℕ, ◌<◌, ◌==◌, Bool, true, false, List, [], ◌∷◌, ◌++◌, Some, map, slice_get, if◌then◌else◌, append_assoc, refl, sym, ap, ◌∙◌, subst}
+use Rattle.std.proofs.Common.{◌≡◌, ℕ, ◌<◌, ◌==◌, Bool, true, false, List, [], ◌∷◌, ◌++◌, Some, map, slice_get, if◌then◌else◌, append_assoc, refl, sym, ap, ◌∙◌, subst, inl, inr, arith}
 use Rattle.std.proofs.lemmas.Bool.{eqb-true}
 use Rattle.std.proofs.lemmas.List.{map-append}
+use Rattle.std.proofs.lemmas.Option.{slice_get_within}
 use Rattle.model_core.specs.Machine.{Machine, empty_machine}
 use Rattle.words_core.specs.declared.event.Event.{Event}
 use Rattle.words_core.specs.declared.event.Event.TheVariants.{Tenant}
@@ -14,10 +15,11 @@ use Rattle.world_core.specs.World.{World, opening_world, world_step}
 use Rattle.world_core.specs.OwnList.{own_entries}
 use Rattle.world_core.proofs.OwnListRuns.{step_leaves, opening-machine}
 use Rattle.kernel_core.specs.Content.{KernelContent}
-use Rattle.kernel_core.specs.Shows.{Shows}
+use Rattle.kernel_core.specs.Shows.{ShowsMachine, Shows}
 use Rattle.kernel_core.specs.Steps.{Steps}
 use Rattle.kernel_core.specs.Stores.{IsKernel}
-use Rattle.kernel_core.specs.Actions.{Action, Runs, StoresAt, LoadsAt, Acts, AllAct, Sight, Told, Loaded, sights_in, sights_of, Own, Enters, Stored, LoadedAt, own_in, own_actions, OwnSeen, own_step, own_seen, IsBooted, OwnSights, SameSights}
+use Rattle.kernel_core.specs.Lookups.{Lookup, Outcome, AnswersLookup, answer_to}
+use Rattle.kernel_core.specs.Actions.{Action, Runs, StoresAt, LoadsAt, Finds, Acts, AllAct, Sight, Told, Loaded, Found, sights_in, sights_of, Own, Enters, Stored, LoadedAt, Sought, own_in, own_actions, OwnSeen, own_step, own_seen, IsBooted, OwnSights, SameSights}
 use Rattle.kernel_core.proofs.Stores.{stores_are_writes, loads_are_own}
 
 -- The private machine over own lists
@@ -125,11 +127,36 @@ load_follows k k' named place byte t m had did =
       has = subst (λ (x : OwnSeen). Has k t x.machine) (sym seen) had;
     })
 
+find_seen : (order : ℕ) (lookup : Lookup) (outcome : Outcome) (m : Machine) (own : Bool) → (own ≡ true → outcome ≡ answer_to order lookup m)
+    → own_seen cache_limit order (if_own own (Sought lookup)) m ≡ record { sights = if_own own (Found outcome); machine = m }
+find_seen order lookup outcome m true is = ap (λ o. record { sights = Found o ∷ []; machine = m }) (sym (is refl))
+find_seen order lookup outcome m false is = refl
+
+-- what a lookup of a tenant that exists finds in the machine that the kernel shows for the tenant
+answer_is : (k : KernelContent) (t : ℕ) (lookup : Lookup) (outcome : Outcome) (m : Machine) → AnswersLookup k t lookup outcome → t < k.tenants → ShowsMachine k t m
+    → outcome ≡ answer_to k.order lookup m
+answer_is k t lookup outcome m (inl none) here shown = let past = none.0 in absurd (omega arith)
+answer_is k t lookup outcome m (inr answers) here shown = answers.1 m shown
+
+find_follows : (k k' : KernelContent) (named : ℕ) (lookup : Lookup) (outcome : Outcome) (t : ℕ) (m : Machine) → Has k t m → Acts k (Finds named lookup outcome) k'
+    → Follows k.order t (own_in t (Finds named lookup outcome)) m (sights_in t (Finds named lookup outcome)) k'
+find_follows k k' named lookup outcome t m had did =
+    let here : t < k.tenants = omega (arith, slice_get_within had.world.machines t m had.machine, had.shows.tenants) in
+    let own : (named == t) ≡ true → outcome ≡ answer_to k.order lookup m = λ is.
+    answer_is k t lookup outcome m (subst (λ u. AnswersLookup k u lookup outcome) (eqb-true named t is) did.0) here (had.shows.machines t m had.machine) in
+    let seen = find_seen k.order lookup outcome m (named == t) own in
+    subst (λ (x : KernelContent). Follows k.order t (own_in t (Finds named lookup outcome)) m (sights_in t (Finds named lookup outcome)) x) (sym did.1) (record {
+      sights = sym (ap (λ (x : OwnSeen). x.sights) seen);
+      order = refl;
+      has = subst (λ (x : OwnSeen). Has k t x.machine) (sym seen) had;
+    })
+
 follows : (k k' : KernelContent) (action : Action) (t : ℕ) (m : Machine) → Has k t m → Acts k action k'
     → Follows k.order t (own_in t action) m (sights_in t action) k'
 follows k k' (Runs event reply) t m had did = run_follows k k' event reply t m had did.0 did.1
 follows k k' (StoresAt named place bytes) t m had did = store_follows k k' named place bytes t m had did
 follows k k' (LoadsAt named place byte) t m had did = load_follows k k' named place byte t m had did
+follows k k' (Finds named lookup outcome) t m had did = find_follows k k' named lookup outcome t m had did
 
 -- if `Follows` holds for `owns`, and for `owns'` from the machine after `owns`, it holds for the two lists joined
 both : (order t : ℕ) (owns owns' : List Own) (m : Machine) (sights sights' : List Sight) (k' l' : KernelContent) → Follows order t owns m sights k'

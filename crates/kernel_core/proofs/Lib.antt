@@ -18,6 +18,8 @@ pub mod FrameKinds
 pub mod Stores
 pub mod OneHolder
 pub mod ShownWellFormed
+pub mod LookupAnswers
+pub mod BlockAnswers
 pub mod Actions
 pub mod MadeKernels
 pub mod WitnessesActions

@@ -141,7 +141,7 @@ holder superblock taken = record { slots = superblock ∷ None ∷ []; taken = t
 abbrev pub holders : Option ℕ → Option ℕ → Option ℕ → Option ℕ → buddies.Content
 holders a x b y = record { top = 3; superblocks = 2; tenants = holder a x ∷ holder b y ∷ [] }
 
-holder_frame : (a x : Option ℕ) (f k : ℕ) → buddies.taken_of (holder a x) f ≡ Some k → (f ≡ 0) × (x ≡ Some k)
+pub holder_frame : (a x : Option ℕ) (f k : ℕ) → buddies.taken_of (holder a x) f ≡ Some k → (f ≡ 0) × (x ≡ Some k)
 holder_frame a x zero k is = (refl, is)
 holder_frame a x (suc f) k is = let none = none_in {A = ℕ} 15 f in absurd (cc)
 

@@ -1,9 +1,10 @@
--- Instances of the laws of worlds, of stores and of actions, for two lists of actions. In the list `alone`, only tenant 0 acts.
+-- Instances of the laws of worlds, of stores, of live holders and of actions. The last are for two lists of actions. In the list `alone`, only tenant 0 acts.
 -- It gets a superblock, allocates a frame, stores 100 bytes there (the command `write` has at most 64), and loads and reads the
--- last of these bytes. In the list `beside`, tenant 0 does the same. Before that, tenant 1 gets a superblock, allocates a frame
+-- last of these bytes. Then it looks up the holder of this byte, and the holder of the first byte behind the frame. In the list `beside`, tenant 0 does the same. Before that, tenant 1 gets a superblock, allocates a frame
 -- and stores its own bytes. Tenant 1 stores once more before tenant 0 loads.
-use Rattle.std.proofs.Common.{◌≡◌, ℕ, List, [], ◌∷◌, Some, None, refl, ◌∙◌, arith, length, ◌<◌, position, is_none}
+use Rattle.std.proofs.Common.{◌≡◌, ℕ, ◌^◌, List, [], ◌∷◌, Some, None, refl, sym, ap, ◌∙◌, false, arith, length, ◌<◌, position, is_none}
 use Rattle.std.specs.Prelude.{replicate}
+use Rattle.model_core.specs.Blocks.{IsTaken}
 use Rattle.model_core.specs.Machine.{Machine, empty_machine}
 use Rattle.model_core.specs.WellFormed.{IsWellFormed}
 use Rattle.words_core.specs.declared.event.Event.TheVariants as On
@@ -11,23 +12,32 @@ use Rattle.words_core.specs.declared.event.AdminCommand.TheVariants as Do
 use Rattle.words_core.specs.declared.event.Command.TheVariants as Command
 use Rattle.words_core.specs.declared.reply.Addressee.TheVariants as To
 use Rattle.words_core.specs.declared.reply.Body.TheVariants.{Frame, Bytes, Written}
+use Rattle.words_core.specs.declared.reply.Refusal.TheVariants.{OutOfReach}
 use Rattle.world_core.specs.Limits.{cache_limit}
 use Rattle.world_core.specs.PrivateStep.{Ask, Grant}
 use Rattle.world_core.specs.World.{World, opening_world, world_step}
 use Rattle.space_core.specs.Content as spaces
 use Rattle.space_core.specs.Changes.{with_grant}
 use Rattle.buddy_core.specs.Content as buddies
+use Rattle.machine_changes.specs.Shows.{machine_frame_of, has_slab}
 use Rattle.machine_changes.specs.Pages.{stored}
 use Rattle.machine_changes.specs.Slots.{HoldTogether}
+use Rattle.machine_changes.proofs.Lookups.{some_same}
+use Rattle.kernel_core.specs.declared.holders.Holder.{Holder}
 use Rattle.kernel_core.specs.Content.{KernelContent, content_of}
 use Rattle.kernel_core.specs.Shows.{Shows, OneWorld}
 use Rattle.kernel_core.specs.Steps.{Steps}
 use Rattle.kernel_core.specs.Stores.{IsKernel, Stores, Loads, StoresAreWrites, LoadsAreOwn}
 use Rattle.kernel_core.specs.Holders.{ShownWellFormed}
-use Rattle.kernel_core.specs.Actions.{Action, Runs, StoresAt, LoadsAt, Acts, AllAct, Sight, Told, Loaded, sights_of, Own, Enters, Stored, LoadedAt, own_seen, OwnSights, SameSights}
+use Rattle.kernel_core.specs.Lookups.{HolderOf, FoundHolder, Refused, AnswersLookup}
+use Rattle.kernel_core.specs.Actions.{Action, Runs, StoresAt, LoadsAt, Finds, Acts, AllAct, Sight, Told, Loaded, Found, sights_of, Own, Enters, Stored, LoadedAt, Sought, own_seen, OwnSights, SameSights}
 use Rattle.kernel_core.proofs.Actions.{Has, booted_has, all_follow}
+use Rattle.kernel_core.proofs.ByteHolders.{free_beyond}
+use Rattle.kernel_core.proofs.LendSpans.{has_block}
+use Rattle.kernel_core.proofs.LookupAnswers.{holder_answers}
+use Rattle.kernel_core.proofs.PageCalls.{IsRequested}
 use Rattle.kernel_core.proofs.Granting.{IsGrantable, granted_reply}
-use Rattle.kernel_core.proofs.MadeKernels.{to_tenant, grant_acts, alloc_acts, read_acts, in_frame, holders, holders_laws, chosen, opened_space, no_slabs, opened, is_opened}
+use Rattle.kernel_core.proofs.MadeKernels.{to_tenant, grant_acts, alloc_acts, read_acts, in_frame, holder, holders, holder_frame, holders_laws, chosen, opened_space, no_slabs, opened, is_opened}
 use Rattle.kernel_core.proofs.Stores.{stores_are_writes}
 
 abbrev pub bytes : List ℕ
@@ -83,13 +93,49 @@ alone_loaded = record {
   is = alone_granted.1.together.space.own_bytes.window 0 5 100 bytes refl refl 104;
 }
 
+-- the page block at frame 0
+abbrev pub frame_0 : Holder
+frame_0 = record { cache = None; place = 0; bytes = 4096 }
+
+abbrev lookups : List Action
+lookups = Finds 0 (HolderOf 104) (FoundHolder frame_0) ∷ Finds 0 (HolderOf 4096) (Refused OutOfReach) ∷ []
+
+-- if the only taken block of tenant 0 is the frame 0, and there are no slabs, these are the outcomes of the lookups
+module _ (r : spaces.Content) (b : buddies.Content) (is : IsKernel (content_of r b no_slabs)) (tenant : 0 < length b.tenants)
+    (taken : buddies.taken_of (buddies.holding_of 0 b) 0 ≡ Some 0) (page : has_slab no_slabs (machine_frame_of 3 r.slots 0 0) ≡ false)
+    (only : IsTaken (buddies.taken_of (buddies.holding_of 0 b)) 1 → ⊥) where
+  asked : IsRequested r b no_slabs 0
+  asked = record { together = is.together; tenant = tenant }
+
+  pub holder_found : AnswersLookup (content_of r b no_slabs) 0 (HolderOf 104) (FoundHolder frame_0)
+  holder_found =
+      holder_answers (content_of r b no_slabs) 0 0 (refl, tenant) is 104 (Some frame_0)
+      (has_block r b no_slabs 0 104 asked 0 0 taken (omega arith, omega arith) page)
+
+  pub none_found : AnswersLookup (content_of r b no_slabs) 0 (HolderOf 4096) (Refused OutOfReach)
+  none_found = holder_answers (content_of r b no_slabs) 0 0 (refl, tenant) is 4096 None (free_beyond r b no_slabs 0 4096 asked only)
+
+-- in the buddy system of a tenant whose only taken block is frame 0, frame 1 is not taken
+frame_1_untaken : (m : ℕ) → IsTaken (buddies.taken_of (holder (Some m) (Some 0))) 1 → ⊥
+frame_1_untaken m (f, j, e, here) =
+    let is = holder_frame (Some m) (Some 0) f j e in
+    let size : 2 ^ j ≡ 1 = ap (λ n. 2 ^ n) (sym (some_same is.1)) in
+    absurd (omega (arith, here.1, is.0, size))
+
 abbrev alone : List Action
 alone = Runs (On.Admin (Do.Grant 0)) (granted_reply 0 0 0) ∷ Runs (On.Tenant 0 (Command.Alloc 0)) (to_tenant 0 (Frame 0)) ∷ StoresAt 0 5 bytes
-    ∷ LoadsAt 0 104 7 ∷ Runs (On.Tenant 0 (Command.Read 104 1)) (to_tenant 0 (Bytes (record { items = 7 ∷ [] }))) ∷ []
+    ∷ LoadsAt 0 104 7 ∷ Runs (On.Tenant 0 (Command.Read 104 1)) (to_tenant 0 (Bytes (record { items = 7 ∷ [] }))) ∷ lookups
+
+alone_lookups : AllAct alone_3 lookups alone_3
+alone_lookups = (
+  alone_3,
+  (holder_found alone_3.space alone_3.buddy alone_kernel (omega arith) refl refl (frame_1_untaken 0), refl),
+  (alone_3, (none_found alone_3.space alone_3.buddy alone_kernel (omega arith) refl refl (frame_1_untaken 0), refl), refl),
+)
 
 alone_acts : AllAct opened alone alone_3
 alone_acts =
-    (alone_1, alone_granted, (alone_2, alone_taken, (alone_3, alone_stored, (alone_3, (alone_loaded, refl), (alone_3, read_acts alone_3 0 104 7 alone_kernel alone_loaded, refl)))))
+    (alone_1, alone_granted, (alone_2, alone_taken, (alone_3, alone_stored, (alone_3, (alone_loaded, refl), (alone_3, read_acts alone_3 0 104 7 alone_kernel alone_loaded, alone_lookups)))))
 
 -- Beside tenant 1
 
@@ -177,7 +223,14 @@ abbrev beside : List Action
 beside = Runs (On.Admin (Do.Grant 1)) (granted_reply 1 0 0) ∷ Runs (On.Tenant 1 (Command.Alloc 0)) (to_tenant 1 (Frame 0)) ∷ StoresAt 1 5 (replicate 100 9)
     ∷ Runs (On.Admin (Do.Grant 0)) (granted_reply 0 0 1) ∷ Runs (On.Tenant 0 (Command.Alloc 0)) (to_tenant 0 (Frame 0)) ∷ StoresAt 0 5 bytes
     ∷ StoresAt 1 104 (9 ∷ []) ∷ LoadsAt 0 104 7
-    ∷ Runs (On.Tenant 0 (Command.Read 104 1)) (to_tenant 0 (Bytes (record { items = 7 ∷ [] }))) ∷ []
+    ∷ Runs (On.Tenant 0 (Command.Read 104 1)) (to_tenant 0 (Bytes (record { items = 7 ∷ [] }))) ∷ lookups
+
+beside_lookups : AllAct beside_7 lookups beside_7
+beside_lookups = (
+  beside_7,
+  (holder_found beside_7.space beside_7.buddy kernel_7 (omega arith) refl refl (frame_1_untaken 1), refl),
+  (beside_7, (none_found beside_7.space beside_7.buddy kernel_7 (omega arith) refl refl (frame_1_untaken 1), refl), refl),
+)
 
 beside_acts : AllAct opened beside beside_7
 beside_acts = (
@@ -201,7 +254,7 @@ beside_acts = (
             (
               beside_7,
               stored_again,
-              (beside_7, (loaded_0, refl), (beside_7, read_acts beside_7 0 104 7 kernel_7 loaded_0, refl)),
+              (beside_7, (loaded_0, refl), (beside_7, read_acts beside_7 0 104 7 kernel_7 loaded_0, beside_lookups)),
             ),
           ),
         ),
@@ -243,11 +296,12 @@ LoadsAreOwn-met : LoadsAreOwn → written.bytes 104 ≡ Some 7
 LoadsAreOwn-met law = law alone_3 alone_has.world written 0 104 7 alone_has.kernel alone_has.shows alone_has.machine alone_loaded
 
 -- with each of the two lists of actions, tenant 0 sees the sights `seen`, and its own list is `own_list`
-abbrev seen : List Sight
-seen = Told (Frame 0) ∷ Loaded (Some 7) ∷ Told (Bytes (record { items = 7 ∷ [] })) ∷ []
+abbrev pub seen : List Sight
+seen = Told (Frame 0) ∷ Loaded (Some 7) ∷ Told (Bytes (record { items = 7 ∷ [] })) ∷ Found (FoundHolder frame_0) ∷ Found (Refused OutOfReach) ∷ []
 
 abbrev own_list : List Own
-own_list = Enters Grant ∷ Enters (Ask (Command.Alloc 0)) ∷ Stored 5 bytes ∷ LoadedAt 104 ∷ Enters (Ask (Command.Read 104 1)) ∷ []
+own_list = Enters Grant ∷ Enters (Ask (Command.Alloc 0)) ∷ Stored 5 bytes ∷ LoadedAt 104 ∷ Enters (Ask (Command.Read 104 1))
+    ∷ Sought (HolderOf 104) ∷ Sought (HolderOf 4096) ∷ []
 
 OwnSights-met : OwnSights → seen ≡ (own_seen cache_limit 3 own_list empty_machine).sights
 OwnSights-met law = (law opened beside_7 2 2 0 beside is_opened (omega arith) beside_acts).0

@@ -13,6 +13,7 @@ use Rattle.kernel_core.specs.Content.{KernelContent}
 use Rattle.kernel_core.specs.Shows.{ShowsMachine, Shows}
 use Rattle.kernel_core.specs.Steps.{Steps}
 use Rattle.kernel_core.specs.Stores.{IsKernel, Stores, Loads}
+use Rattle.kernel_core.specs.Lookups.{Lookup, Outcome, AnswersLookup, answer_to}
 
 pub data Action : Type 0 where
   -- an event is run and gets this reply
@@ -21,45 +22,52 @@ pub data Action : Type 0 where
   StoresAt : ℕ → ℕ → List ℕ → Action
   -- a tenant loads the byte at a place
   LoadsAt : ℕ → ℕ → ℕ → Action
+  -- a tenant looks something up by place, and this is the outcome
+  Finds : ℕ → Lookup → Outcome → Action
 
 -- the action leads from kernel k to kernel k'
 abbrev pub Acts : KernelContent → Action → KernelContent → Type 0
 Acts k (Runs event reply) k' = Steps k event k' reply × IsKernel k'
 Acts k (StoresAt t place bytes) k' = Stores k t place bytes k'
 Acts k (LoadsAt t place byte) k' = Loads k t place byte × (k' ≡ k)
+Acts k (Finds t lookup outcome) k' = AnswersLookup k t lookup outcome × (k' ≡ k)
 
 -- the actions of the list, one after the other, lead from kernel k to kernel k'
 abbrev pub AllAct : KernelContent → List Action → KernelContent → Type 0
 AllAct k [] k' = k' ≡ k
 AllAct k (action ∷ actions) k' = (next : KernelContent) × Acts k action next × AllAct next actions k'
 
--- one thing that a tenant sees: a reply to the tenant, or a byte that the tenant loads
+-- one thing that a tenant sees: a reply to the tenant, a byte that the tenant loads, or the outcome of a lookup of the tenant
 pub data Sight : Type 0 where
   Told : Body → Sight
   Loaded : Option ℕ → Sight
+  Found : Outcome → Sight
 
 abbrev pub sights_in : ℕ → Action → List Sight
 sights_in t (Runs event reply) = map Told (if_for t reply.addressee reply.body)
 sights_in t (StoresAt named place bytes) = []
 sights_in t (LoadsAt named place byte) = if named == t then Loaded (Some byte) ∷ [] else []
+sights_in t (Finds named lookup outcome) = if named == t then Found outcome ∷ [] else []
 
 -- all that tenant t sees
 abbrev pub sights_of : ℕ → List Action → List Sight
 sights_of t [] = []
 sights_of t (action ∷ actions) = sights_in t action ++ sights_of t actions
 
--- one thing that reaches the machine of a tenant: an entry, a store of bytes, or a load of a byte
+-- one thing that reaches the machine of a tenant: an entry, a store of bytes, a load of a byte, or a lookup
 pub data Own : Type 0 where
   Enters : Entry → Own
   Stored : ℕ → List ℕ → Own
   LoadedAt : ℕ → Own
+  Sought : Lookup → Own
 
 abbrev pub own_in : ℕ → Action → List Own
 own_in t (Runs event reply) = map Enters (own_entries t event reply.body)
 own_in t (StoresAt named place bytes) = if named == t then Stored place bytes ∷ [] else []
 own_in t (LoadsAt named place byte) = if named == t then LoadedAt place ∷ [] else []
+own_in t (Finds named lookup outcome) = if named == t then Sought lookup ∷ [] else []
 
--- tenant t's own list: all that reaches its machine, without the values of the loaded bytes
+-- tenant t's own list: all that reaches its machine, without the values of the loaded bytes and the outcomes of the lookups
 abbrev pub own_actions : ℕ → List Action → List Own
 own_actions t [] = []
 own_actions t (action ∷ actions) = own_in t action ++ own_actions t actions
@@ -76,6 +84,7 @@ own_step limit order (Enters entry) m = record {
 }
 own_step limit order (Stored place bytes) m = record { sights = []; machine = (write_step place bytes m).machine }
 own_step limit order (LoadedAt place) m = record { sights = Loaded (m.bytes place) ∷ []; machine = m }
+own_step limit order (Sought lookup) m = record { sights = Found (answer_to order lookup m) ∷ []; machine = m }
 
 -- what a tenant with private machine m sees when its own list is run, and the machine afterwards
 abbrev pub own_seen : ℕ → ℕ → List Own → Machine → OwnSeen

@@ -10,3 +10,4 @@ pub mod Stores
 pub mod Actions
 pub mod Lending
 pub mod Holders
+pub mod Lookups

@@ -24,12 +24,14 @@ impl Kernel {
     ghost use Rattle.kernel_core.specs.Shows.{ShowsMachine};
     ghost use Rattle.kernel_core.specs.Lending.{IsNotLent};
     ghost use Rattle.kernel_core.specs.Holders.{IsHolder};
+    ghost use Rattle.kernel_core.specs.Lookups.{HolderOf, FoundHolder, found_or_refused, AnswersLookup};
 
     /// Returns the tenant's live object or live page block that contains the byte at `place`.
     ///
     /// Refuses with `NoTenant`, then with `OutOfReach` if no live object or live page block contains the byte.
     #[inline(always)]
     pub fn holder(&self, tenant: u32, place: u32) -> Result<Holder, Refusal>
+        ensures answers { AnswersLookup self.now tenant (HolderOf place) (found_or_refused FoundHolder result) }
         ensures tenant { IfOk result (λ holder. tenant < self.now.tenants) }
         ensures holder { IfOk result (λ holder. (m : Machine) → ShowsMachine self.now tenant m → IsHolder m place holder) }
         ensures refused { IfErr result (IsNotLent self.now tenant (λ refusal. (refusal ≡ OutOfReach)
@@ -38,6 +40,7 @@ impl Kernel {
         let Some(t) = self.tenant(tenant) else {
             return Err(Refusal::NoTenant);
         };
+        self.laws();
         self.holder_of(t, place).ok_or(Refusal::OutOfReach)
     }
 

@@ -57,10 +57,10 @@ pub fn loads_are_own()
     ensures { LoadsAreOwn }
 {}
 
-/// In any list of events, stores and loads after boot, a tenant gets the replies and loads the bytes that its private machine
-/// gives for the tenant's own list. Afterwards the kernel shows for the tenant the machine that this list leaves. So if the
-/// tenant's own lists on two machines of the same order are equal, the tenant sees the same on both, whatever their numbers of
-/// superblocks and tenants. The other tenants may do anything.
+/// In any list of events, stores, loads and lookups by place after boot, a tenant gets the replies, loads the bytes and finds the
+/// blocks and objects that its private machine gives for the tenant's own list. Afterwards the kernel shows for the tenant the
+/// machine that this list leaves. So if the tenant's own lists on two machines of the same order are equal, the tenant sees the
+/// same on both, whatever their numbers of superblocks and tenants. The other tenants may do anything.
 pub fn own_sights()
     ensures own { OwnSights }
     ensures same { SameSights }

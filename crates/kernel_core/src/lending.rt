@@ -37,6 +37,7 @@ pub struct Span {
 impl Kernel {
     ghost use Rattle.kernel_core.specs.Shows.{ShowsMachine};
     ghost use Rattle.kernel_core.specs.Steps.{Steps, body_of};
+    ghost use Rattle.kernel_core.specs.Lookups.{RangeAt, PageAround, ObjectAt, found_or_refused, range_in, page_in, object_of, AnswersLookup};
     ghost use Rattle.kernel_core.specs.Lending.{LendsSpan, IsLive, IsLent, HasBlock, IsBlockSpan, IsNotLent, reply_for};
 
     /// Lends the bytes of a span in place, to be read and written. When the borrow ends, the span has the bytes that were left
@@ -61,6 +62,7 @@ impl Kernel {
     /// Refuses with `NoTenant`, then with `OutOfReach` if `len` is 0 or the bytes do not lie inside one live page block or one
     /// live object.
     pub fn span(&self, tenant: u32, place: u32, len: u32) -> Result<Span, Refusal>
+        ensures answers { AnswersLookup self.now tenant (RangeAt place len) (found_or_refused range_in result) }
         ensures live { IfOk result (λ span. IsLive self.now span) }
         ensures asked { IfOk result (λ span. (span.tenant ≡ tenant) × ((span.place ≡ place) × (span.bytes ≡ len))) }
         ensures refused { IfErr result (IsNotLent self.now tenant (λ refusal. (refusal ≡ OutOfReach)
@@ -69,6 +71,7 @@ impl Kernel {
         let Some(t) = self.tenant(tenant) else {
             return Err(Refusal::NoTenant);
         };
+        self.laws();
         let Some(superblock) = self.reached(t, place, len) else {
             return Err(Refusal::OutOfReach);
         };
@@ -84,6 +87,7 @@ impl Kernel {
     ///
     /// Refuses with `NoTenant`, then with `OutOfReach` if `place` is in no live page block. A slab is not a page block.
     pub fn block_span(&self, tenant: u32, place: u32) -> Result<Span, Refusal>
+        ensures answers { AnswersLookup self.now tenant (PageAround place) (found_or_refused page_in result) }
         ensures live { IfOk result (λ span. IsLive self.now span) }
         ensures block { IfOk result (λ span. (span.tenant ≡ tenant)
             × ((m : Machine) → ShowsMachine self.now tenant m → HasBlock m place span.place span.bytes)) }
@@ -117,6 +121,7 @@ impl Kernel {
     ///
     /// Refuses with `NoTenant`, then in the same cases as a `give` of the object: with `NoCache`, then with `NotAnObject`.
     pub fn object_span(&self, tenant: u32, cache: u32, place: u32) -> Result<Span, Refusal>
+        ensures answers { AnswersLookup self.now tenant (ObjectAt cache place) (found_or_refused (object_of cache) result) }
         ensures live { IfOk result (λ span. IsLive self.now span) }
         ensures object { IfOk result (λ span. (span.tenant ≡ tenant) × ((span.place ≡ place)
             × ((m : Machine) → ShowsMachine self.now tenant m → HasObject m cache place span.bytes))) }

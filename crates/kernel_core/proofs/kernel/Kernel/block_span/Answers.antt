@@ -12,6 +12,8 @@ use Rattle.kernel_core.specs.Content.{KernelContent}
 use Rattle.kernel_core.proofs.CallEffects.{steady, opened, known}
 use Rattle.kernel_core.proofs.PageCalls.{block_slot, IsRequested}
 use Rattle.kernel_core.proofs.LendSpans.{refused_for, unheld_no_page, free_no_page, slab_no_page, few, block_live, has_block}
+use Rattle.kernel_core.specs.Stores.{IsKernel}
+use Rattle.kernel_core.proofs.LookupAnswers.{page_answers, no_page_answers}
 use Rattle.kernel_core.proofs.kernel.Kernel.block_span.Goals as goal
 use Rattle.kernel_core.proofs.kernel.Kernel.block_span.Goals.{After-machine_of, After-is_slab_in}
 
@@ -88,3 +90,35 @@ returns-clause-block c =
           (rw (← c.self.view_is) (has_block _ _ _ c.in-Some.t c.args.place (asked g.After-machine_of) first order c.in-Some-block_in.ensures.0 c.in-Some-block_in.ensures.1
           (told g.After-is_slab_in ∙ c.if-is_slab_in.false))),
     )
+
+is_kernel : (c : After-machine_of) → IsKernel c.args.self.now
+is_kernel c = record { agree = c.laws.ensures.agree; together = c.laws.ensures.together }
+
+pub returns-in_default-machine_of-clause-answers : goal.returns-in_default-machine_of-clause-answers
+returns-in_default-machine_of-clause-answers c =
+    let a = (goal.at.returns-in_default-machine_of-clause-answers c).After-machine_of in
+    no_page_answers c.args.self.now c.in-Some.t c.args.tenant c.in-Some.ensures (is_kernel a) c.args.place
+    (rw (← c.self.view_is) (unheld_no_page _ _ _ c.in-Some.t c.args.place (asked a) (read a ∙ c.in_default-machine_of.is)))
+
+pub returns-in_default-block_in-clause-answers : goal.returns-in_default-block_in-clause-answers
+returns-in_default-block_in-clause-answers c =
+    let a = (goal.at.returns-in_default-block_in-clause-answers c).After-machine_of in
+    no_page_answers c.args.self.now c.in-Some.t c.args.tenant c.in-Some.ensures (is_kernel a) c.args.place
+    (rw (← c.self.view_is) (free_no_page _ _ _ c.in-Some.t c.args.place (asked a) c.in_default-block_in.ensures))
+
+pub returns-then-is_slab_in-clause-answers : goal.returns-then-is_slab_in-clause-answers
+returns-then-is_slab_in-clause-answers c =
+    let g = goal.at.returns-then-is_slab_in-clause-answers c in
+    no_page_answers c.args.self.now c.in-Some.t c.args.tenant c.in-Some.ensures (is_kernel g.After-machine_of) c.args.place
+    (rw (← c.self.view_is) (slab_no_page _ _ _ c.in-Some.t c.args.place (asked g.After-machine_of) c.in-Some-block_in.first c.in-Some-block_in.order c.in-Some-block_in.ensures.0 c.in-Some-block_in.ensures.1
+    (told g.After-is_slab_in ∙ c.if-is_slab_in.true)))
+
+pub returns-clause-answers : goal.returns-clause-answers
+returns-clause-answers c =
+    let g = goal.at.returns-clause-answers c in
+    let first = c.in-Some-block_in.first in
+    let order = c.in-Some-block_in.order in
+    page_answers c.args.self.now c.in-Some.t c.args.tenant c.in-Some.ensures (is_kernel g.After-machine_of) c.args.place
+    (4096 * first) (4096 * 2 ^ order % 4294967296)
+    (rw (← c.self.view_is) (has_block _ _ _ c.in-Some.t c.args.place (asked g.After-machine_of) first order c.in-Some-block_in.ensures.0 c.in-Some-block_in.ensures.1
+    (told g.After-is_slab_in ∙ c.if-is_slab_in.false)))
