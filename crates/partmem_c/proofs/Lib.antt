@@ -2,6 +2,7 @@ mod FigureLemmas
 pub mod ReadLemmas
 mod FreeLemmas
 mod LendLemmas
+mod BlockLemmas
 mod HolderLemmas
 mod RawBoxValues
 mod KernelCellSteps

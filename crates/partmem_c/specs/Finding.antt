@@ -1,15 +1,12 @@
 -- Lookups of the superblock in a slot, and of the block at a place.
 use Rattle.std.specs.Prelude.{◌≡◌, ℕ, ◌*◌, ◌/◌, ◌^◌, ◌<◌, ◌≤◌, nat_lt, if◌then◌else◌, Option, Some, None, Result, Ok, Err, MatchOption, unwrap_or}
 use Rattle.words_core.specs.declared.reply.Refusal.{Refusal}
-use Rattle.model_core.specs.declared.limits.TheConstants.{FRAME_BYTES}
 use Rattle.model_core.specs.Blocks.{block, HasFrame, IsTaken}
-use Rattle.model_core.specs.Machine.{Machine}
 use Rattle.buddy_core.specs.Content.{holding_of, taken_of}
 use Rattle.words_core.specs.Texts.{number_of_refusal}
 use Rattle.kernel_core.specs.declared.frames.FrameKind.{FrameKind}
 use Rattle.kernel_core.specs.Content.{KernelContent, superblock_at}
-use Rattle.kernel_core.specs.Shows.{ShowsMachine}
-use Rattle.kernel_core.specs.Frames.{IsFrame}
+use Rattle.kernel_core.specs.Lookups.{BlockUse, UnheldSlot, FreeFrame, PageBlock, SlabBlock, BlockAround, FoundBlock, AnswersLookup}
 use Rattle.partmem_c.specs.declared.status.TheConstants.{DONE, NO_MACHINE}
 use Rattle.partmem_c.specs.declared.lookups.TheConstants.{NO_SUCH_SLOT, FREE_FRAME, PAGE_BLOCK, SLAB}
 use Rattle.partmem_c.specs.declared.lookups.Block.{Block}
@@ -64,19 +61,20 @@ pub record AreAround (k : KernelContent) (t frame : ℕ) (kind : FrameKind) (aro
       (λ b. (taken_of (holding_of t k.buddy) b.0 ≡ Some b.1) × HasFrame (block b.0 b.1) frame)
   pub is : around ≡ unwrap_or taken (untaken kind frame k.order)
 
--- The frame has a kind in the private machine of the tenant. `found` has the use of a frame of this kind, and the place and the
--- size in bytes of the block around the frame.
-pub record IsBlockAt (k : KernelContent) (t frame : ℕ) (found : Block) : Type 0 where
-  pub kind : FrameKind
-  pub is : (m : Machine) → ShowsMachine k t m → IsFrame k.order m frame kind
-  pub uses : found.usage ≡ use_of kind
-  pub first : ℕ
-  pub order : ℕ
-  pub around : AreAround k t frame kind (first, order)
-  pub begins : found.place ≡ first * FRAME_BYTES
-  pub counted : found.bytes ≡ FRAME_BYTES * 2 ^ order
+abbrev pub number_of_use : BlockUse → ℕ
+number_of_use UnheldSlot = NO_SUCH_SLOT
+number_of_use FreeFrame = FREE_FRAME
+number_of_use PageBlock = PAGE_BLOCK
+number_of_use SlabBlock = SLAB
+
+-- `found` has what the block around the place is in the private machine of the tenant, the block's first place, and its size in
+-- bytes
+pub record IsBlockAt (k : KernelContent) (t place : ℕ) (found : Block) : Type 0 where
+  pub usage : BlockUse
+  pub uses : found.usage ≡ number_of_use usage
+  pub is : AnswersLookup k t (BlockAround place) (FoundBlock usage found.place found.bytes)
 
 -- the block that contains a tenant's place, or the refusal if there is no such tenant
 abbrev pub FindsBlock : KernelContent → ℕ → ℕ → Result Block Refusal → Type 0
-FindsBlock k t place (Ok found) = (t < k.tenants) × IsBlockAt k t (place / FRAME_BYTES) found
+FindsBlock k t place (Ok found) = (t < k.tenants) × IsBlockAt k t place found
 FindsBlock k t place (Err refusal) = (k.tenants ≤ t) × (refusal ≡ Refusal.NoTenant)

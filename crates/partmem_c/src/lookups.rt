@@ -9,7 +9,7 @@ use crate::calls::block_bytes;
 use crate::granting::HeldSlot;
 use crate::machine_storage::MachineStorage;
 use crate::status::{DONE, NO_MACHINE};
-use kernel_core::{FrameKind, Kernel};
+use kernel_core::{FrameKind, Kernel, laws};
 use model_core::limits::FRAME_BYTES;
 use std::alloc::Global;
 use words_core::Refusal;
@@ -107,15 +107,16 @@ fn block_at(kernel: &Kernel, tenant: u32, place: u32) -> Result<Block, Refusal>
     ensures { FindsBlock kernel.now tenant place result }
 {
     let t = kernel.tenant(tenant).ok_or(Refusal::NoTenant)?;
-    Ok(block_around(kernel, t, place / FRAME_BYTES))
+    Ok(block_around(kernel, t, place))
 }
 
-/// Returns the block that [`partmem_find_block`] finds for a place in this frame of an existing tenant.
-fn block_around(kernel: &Kernel, t: u8, frame: u32) -> Block
-    requires tenant { t < kernel.now.tenants }
-    requires frame { frame < 2 ^ 20 }
-    ensures { IsBlockAt kernel.now t frame result }
+/// Returns the block that [`partmem_find_block`] finds for a place of an existing tenant.
+fn block_around(kernel: &Kernel, t: u8, place: u32) -> Block
+    requires { t < kernel.now.tenants }
+    ensures { IsBlockAt kernel.now t place result }
 {
+    laws::is_kernel(kernel);
+    let frame = place / FRAME_BYTES;
     let kind = kernel.frame_at(t, frame);
     let (first, order) = frames_around(kernel, t, frame, kind);
     Block {
