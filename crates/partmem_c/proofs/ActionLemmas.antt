@@ -1,14 +1,16 @@
 -- Everything that is done with a machine of the library is a list of actions of its kernel. In this list, each tenant sees what
 -- its private machine returns.
-use Rattle.std.proofs.Common.{ℕ, List, [], ◌∷◌, ◌++◌, Option, Some, None, Result, Ok, Err, refl, subst}
+use Rattle.std.proofs.Common.{ℕ, List, [], ◌∷◌, ◌++◌, Option, Some, None, Result, Ok, Err, refl, ap, subst, inl}
 use Rattle.words_core.specs.declared.event.Event as events
 use Rattle.words_core.specs.declared.event.LineFault.{LineFault}
 use Rattle.words_core.specs.Grammar.{reading_of}
 use Rattle.kernel_core.specs.Content.{KernelContent}
 use Rattle.kernel_core.specs.Stores.{IsKernel}
-use Rattle.kernel_core.specs.Actions.{Action, Runs, AllAct, OwnSights}
+use Rattle.kernel_core.specs.Lookups.{HolderOf, RangeAt, PageAround, ObjectAt, BlockAround, FoundHolder, FoundBlock, Refused, found_or_refused}
+use Rattle.kernel_core.specs.Actions.{Action, Runs, Finds, AllAct, OwnSights}
+use Rattle.partmem_c.specs.Lends.{lent_range, lent_page, lent_object}
 use Rattle.partmem_c.specs.Lines.{AnswersLine}
-use Rattle.partmem_c.specs.Actions.{Done, Line, Event, Call, Direct, Did, AllDid, IsOfReading, IsOf, AreOf, OwnSightsOfCalls}
+use Rattle.partmem_c.specs.Actions.{Done, Line, Event, Call, FindObject, FindBlock, Lend, LendBlock, LendObject, Direct, Did, AllDid, IsOfReading, IsOf, AreOf, OwnSightsOfCalls}
 
 line_is : (k k' : KernelContent) (reading : Result (Option events.Event) LineFault) (text : List ℕ) → AnswersLine k reading k' text → IsKernel k'
     → (actions : List Action) × IsOfReading reading text actions × AllAct k actions k'
@@ -25,6 +27,26 @@ done_is k k' (Event a bytes numbers buffer buffer') did =
       (k', (answers.steps, is), refl),
     )
 done_is k k' (Call event reply status) did = (Runs event reply ∷ [], (refl, did.1), (k', did.0, refl))
+done_is k k' (FindObject t place (Ok numbers)) did =
+    let found = FoundHolder did.0.0 in
+    (Finds t (HolderOf place) found ∷ [], (found, (did.0.0, did.0.1, refl), refl), (k', (did.0.2, did.1), refl))
+done_is k k' (FindObject t place (Err refusal)) did =
+    (Finds t (HolderOf place) (Refused refusal) ∷ [], (Refused refusal, refl, refl), (k', (did.0.1, did.1), refl))
+done_is k k' (FindBlock t place (Ok block)) did =
+    let is = did.0.1 in
+    let found = FoundBlock is.usage block.place block.bytes in
+    (Finds t (BlockAround place) found ∷ [], (found, (is.usage, is.uses, refl), refl), (k', (is.is, did.1), refl))
+done_is k k' (FindBlock t place (Err refusal)) did = (
+  Finds t (BlockAround place) (Refused refusal) ∷ [],
+  (Refused refusal, refl, refl),
+  (k', (inl (did.0.0, ap (λ why. Refused why) did.0.1), did.1), refl),
+)
+done_is k k' (Lend t place len outcome) did =
+    (Finds t (RangeAt place len) (found_or_refused lent_range outcome) ∷ [], refl, (k', (did.0.1, did.1), refl))
+done_is k k' (LendBlock t place outcome) did =
+    (Finds t (PageAround place) (found_or_refused lent_page outcome) ∷ [], refl, (k', (did.0.1, did.1), refl))
+done_is k k' (LendObject t cache place outcome) did =
+    (Finds t (ObjectAt cache place) (found_or_refused (lent_object cache) outcome) ∷ [], refl, (k', (did.0.1, did.1), refl))
 done_is k k' (Direct action) did = (action ∷ [], refl, (k', did, refl))
 
 both_act : (k m k' : KernelContent) (xs ys : List Action) → AllAct k xs m → AllAct m ys k' → AllAct k (xs ++ ys) k'

@@ -3,7 +3,6 @@ pub mod ReadLemmas
 mod FreeLemmas
 mod LendLemmas
 mod BlockLemmas
-mod HolderLemmas
 mod RawBoxValues
 mod KernelCellSteps
 pub mod TextLemmas

@@ -18,6 +18,7 @@ use Rattle.kernel_core.specs.Content.{KernelContent}
 use Rattle.kernel_core.specs.Shows.{ShowsMachine}
 use Rattle.kernel_core.specs.Steps.{Steps, body_of}
 use Rattle.kernel_core.specs.Lending.{HasBlock, IsNotLent, reply_for}
+use Rattle.kernel_core.specs.Lookups.{RangeAt, PageAround, ObjectAt, Outcome, FoundHolder, FoundRange, found_or_refused, AnswersLookup}
 use Rattle.partmem_c.specs.declared.kinds.TheConstants.{FRAME, OBJECT}
 use Rattle.partmem_c.specs.declared.lent.Lent.{Lent}
 use Rattle.partmem_c.specs.declared.telling.ReplyNumbers.{ReplyNumbers}
@@ -32,28 +33,49 @@ pub record IsLentAt (t place bytes : ℕ) (lent : Lent) : Type 0 where
   pub counted : lent.bytes ≡ bytes
   pub somewhere : lent.at ≢ null_ptr
 
--- Lookups of bytes to lend: each finds bytes of the tenant, or a refusal.
+-- Lookups of bytes to lend. Each has an outcome that is lent bytes of the tenant or a refusal. The place and the number of the
+-- bytes are those that the tenant's private machine gives.
+
+abbrev pub lent_range : Lent → Outcome
+lent_range lent = FoundRange lent.place lent.bytes
+
+abbrev pub lent_page : Lent → Outcome
+lent_page lent = FoundHolder (record { cache = None; place = lent.place; bytes = lent.bytes })
+
+abbrev pub lent_object : ℕ → Lent → Outcome
+lent_object cache lent = FoundHolder (record { cache = Some cache; place = lent.place; bytes = lent.bytes })
 
 -- `len` bytes from a place on, inside one live page block or one live object
-abbrev pub FindsRange : KernelContent → ℕ → ℕ → ℕ → Result Lent Refusal → Type 0
-FindsRange k t place len (Ok lent) = (t < k.tenants) × IsInReach k.space k.buddy k.slabs t place len × IsLentAt t place len lent
-FindsRange k t place len (Err refusal) =
+abbrev pub IsRangeLent : KernelContent → ℕ → ℕ → ℕ → Result Lent Refusal → Type 0
+IsRangeLent k t place len (Ok lent) = (t < k.tenants) × IsInReach k.space k.buddy k.slabs t place len × IsLentAt t place len lent
+IsRangeLent k t place len (Err refusal) =
     IsNotLent k t (λ why. (why ≡ Refusal.OutOfReach) × ((m : Machine) → ShowsMachine k t m → in_reach m place len ≡ false)) refusal
 
+abbrev pub FindsRange : KernelContent → ℕ → ℕ → ℕ → Result Lent Refusal → Type 0
+FindsRange k t place len outcome = IsRangeLent k t place len outcome × AnswersLookup k t (RangeAt place len) (found_or_refused lent_range outcome)
+
 -- the whole live page block that contains a place
-abbrev pub FindsWholeBlock : KernelContent → ℕ → ℕ → Result Lent Refusal → Type 0
-FindsWholeBlock k t place (Ok lent) = (t < k.tenants)
+abbrev pub IsWholeBlockLent : KernelContent → ℕ → ℕ → Result Lent Refusal → Type 0
+IsWholeBlockLent k t place (Ok lent) = (t < k.tenants)
     × ((m : Machine) → ShowsMachine k t m → HasBlock m place lent.place lent.bytes) × IsLentAt t lent.place lent.bytes lent
-FindsWholeBlock k t place (Err refusal) =
+IsWholeBlockLent k t place (Err refusal) =
     IsNotLent k t (λ why. (why ≡ Refusal.OutOfReach)
     × ((m : Machine) → ShowsMachine k t m → IsTaken (order_in m.blocks) (place / FRAME_BYTES) → ⊥)) refusal
 
+abbrev pub FindsWholeBlock : KernelContent → ℕ → ℕ → Result Lent Refusal → Type 0
+FindsWholeBlock k t place outcome =
+    IsWholeBlockLent k t place outcome × AnswersLookup k t (PageAround place) (found_or_refused lent_page outcome)
+
 -- the cache's live object that begins at a place
-abbrev pub FindsObject : KernelContent → ℕ → ℕ → ℕ → Result Lent Refusal → Type 0
-FindsObject k t cache place (Ok lent) = (t < k.tenants)
+abbrev pub IsObjectLentAt : KernelContent → ℕ → ℕ → ℕ → Result Lent Refusal → Type 0
+IsObjectLentAt k t cache place (Ok lent) = (t < k.tenants)
     × ((m : Machine) → ShowsMachine k t m → HasObject m cache place lent.bytes) × IsLentAt t place lent.bytes lent
-FindsObject k t cache place (Err refusal) =
+IsObjectLentAt k t cache place (Err refusal) =
     IsNotLent k t (λ why. (m : Machine) → ShowsMachine k t m → give_body (give_step cache place m).answer ≡ Body.Refused why) refusal
+
+abbrev pub FindsObject : KernelContent → ℕ → ℕ → ℕ → Result Lent Refusal → Type 0
+FindsObject k t cache place outcome =
+    IsObjectLentAt k t cache place outcome × AnswersLookup k t (ObjectAt cache place) (found_or_refused (lent_object cache) outcome)
 
 -- Commands that lend what they allocate: the reply follows from the outcome.
 

@@ -23,9 +23,9 @@ pub fn own_lines()
     laws::non_interference();
 }
 
-/// From boot on, each of these is an action: a line with an event, a call of `partmem_event`, a direct call, a call of the
-/// kernel, and a store or load in place. For any list of actions, a tenant sees what its private machine returns for the tenant's
-/// own list, whatever the other tenants do.
+/// From boot on, each of these is an action: a line with an event, a call of `partmem_event`, a direct call, a lookup by place
+/// (`partmem_find_object`, `partmem_find_block` and the three lends), a call of the kernel, and a store or load in place. For any
+/// list of actions, a tenant sees what its private machine returns for the tenant's own list, whatever the other tenants do.
 pub fn own_sights()
     ensures { OwnSightsOfCalls }
 {

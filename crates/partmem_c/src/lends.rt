@@ -2,7 +2,8 @@
 
 ghost use Rattle.std.specs.Prelude.{◌≡◌};
 ghost use Rattle.partmem_c.specs.Finding.{LooksUp, Returns};
-ghost use Rattle.partmem_c.specs.Lends.{no_lent, FindsRange, FindsWholeBlock, FindsObject};
+ghost use Rattle.kernel_core.specs.Lookups.{RangeAt, PageAround, ObjectAt, found_or_refused, AnswersLookup};
+ghost use Rattle.partmem_c.specs.Lends.{no_lent, lent_range, lent_page, lent_object, IsRangeLent, IsWholeBlockLent, IsObjectLentAt, FindsRange, FindsWholeBlock, FindsObject};
 
 use crate::lent::{Lent, lent_of};
 use crate::machine_storage::MachineStorage;
@@ -55,7 +56,8 @@ pub extern "C" fn partmem_lend(
 
 #[inline(always)]
 fn lend(kernel: &mut Kernel, tenant: u32, place: u32, bytes: u32) -> Result<Lent, Refusal>
-    ensures finds { FindsRange kernel.old tenant place bytes result }
+    ensures finds { IsRangeLent kernel.old tenant place bytes result }
+    ensures answers { AnswersLookup kernel.old tenant (RangeAt place bytes) (found_or_refused lent_range result) }
     ensures kept { kernel.new ≡ kernel.old }
 {
     let span = kernel.span(tenant, place, bytes)?;
@@ -86,7 +88,8 @@ pub extern "C" fn partmem_lend_block(
 
 #[inline(always)]
 fn lend_block(kernel: &mut Kernel, tenant: u32, place: u32) -> Result<Lent, Refusal>
-    ensures finds { FindsWholeBlock kernel.old tenant place result }
+    ensures finds { IsWholeBlockLent kernel.old tenant place result }
+    ensures answers { AnswersLookup kernel.old tenant (PageAround place) (found_or_refused lent_page result) }
     ensures kept { kernel.new ≡ kernel.old }
 {
     let span = kernel.block_span(tenant, place)?;
@@ -119,7 +122,8 @@ pub extern "C" fn partmem_lend_object(
 
 #[inline(always)]
 fn lend_object(kernel: &mut Kernel, tenant: u32, cache: u32, place: u32) -> Result<Lent, Refusal>
-    ensures finds { FindsObject kernel.old tenant cache place result }
+    ensures finds { IsObjectLentAt kernel.old tenant cache place result }
+    ensures answers { AnswersLookup kernel.old tenant (ObjectAt cache place) (found_or_refused (lent_object cache) result) }
     ensures kept { kernel.new ≡ kernel.old }
 {
     let span = kernel.object_span(tenant, cache, place)?;

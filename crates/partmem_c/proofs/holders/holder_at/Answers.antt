@@ -1,9 +1,15 @@
-use Rattle.partmem_c.proofs.HolderLemmas.{numbered}
+use Rattle.std.proofs.Common.{Err, ap, ◌∙◌}
+use Rattle.std.proofs.lemmas.Result.{err_from_is_err_and}
 use Rattle.partmem_c.proofs.holders.holder_at.Goals as goal
+
+pub returns-in_err-holder : goal.returns-in_err-holder
+returns-in_err-holder c =
+    let told = err_from_is_err_and c.from_residual.result c.from_residual.ensures.1 in
+    rw (told.1 ∙ ap Err told.2) (c.in_err-holder.ensures.refused, c.in_err-holder.ensures.answers)
 
 pub returns : goal.returns
 returns c = (
-  c.in_ok-holder.ensures.tenant,
-  λ m shown. numbered m c.args.place c.cache_or_none.result c.in_ok-holder.holder.place c.in_ok-holder.holder.bytes c.in_ok-holder.holder.cache
-      c.cache_or_none.ensures (c.in_ok-holder.ensures.holder m shown),
+  c.in_ok-holder.holder,
+  ap (λ n. record { cache = n; place = c.in_ok-holder.holder.place; bytes = c.in_ok-holder.holder.bytes }) c.cache_or_none.ensures,
+  c.in_ok-holder.ensures.answers,
 )
