@@ -541,10 +541,12 @@ PARTMEM_CHECKED partmem_status partmem_line(partmem_machine *machine, const char
  *
  * PROVED of the library's source in Rattle: what each call returns, and what it does to the machine and to each tenant, except
  * for the functions in C; that a store in lent bytes is the write of these bytes, and that a loaded byte is the private machine's
- * at its place; that over any list of commands (by calls, lines or events), loads and stores since boot a tenant gets and loads
- * what a private machine gives to it. What a lend or a lookup returns is in its own contract. Of addresses: one function makes
- * each partmem_lent that has one, and puts there the address of the first byte that the kernel lends for the tenant, the place
- * and the number in it. That the call returns the value as it was made is read in the source: the loan has ended by then, and no
+ * at its place; that at most one live block or object has a byte; that over any list of commands (by calls, lines or events),
+ * lookups, loads and stores since boot a tenant gets, finds and loads what a private machine gives to it. These lookups are
+ * partmem_find_object, partmem_find_block and the three lends, without the address. What partmem_find_slot and
+ * partmem_find_superblock return depends on the grants of all tenants, and is in their own contracts. Of addresses: one function
+ * makes each partmem_lent that has one, and puts there the address of the first byte that the kernel lends for the tenant, the
+ * place and the number in it. That the call returns the value as it was made is read in the source: the loan has ended by then, and no
  * clause can name it. TESTED: that the returned address is that of these bytes and stays,
  * and that nothing is left there from before the grant or move; where superblocks, blocks and objects lie; that only a boot
  * allocates, and no more than the sizes of the macros; the functions in C, which are named in the first comment; loads and stores

@@ -25,7 +25,8 @@
  * So the commands follow from the earlier calls to the heap, from the tenant's other commands, and from its grants, take-backs
  * and resets. One result does not follow from these: whether partmem_heap_init accepts the slots of a heap with runs (see RUNS).
  * A tenant gets the same places, sizes and refusals whatever other tenants do. No object has a header, and nothing is kept for
- * each frame: the library finds what is live at a place (partmem_find_object).
+ * each frame: the library finds what is live at a place (partmem_find_object). It is proved that what it finds depends on the
+ * tenant's own commands, grants, take-backs and resets alone.
  *
  * DIRECT CALLS. A tenant may use direct calls beside its heap. They can use 8 of its 32 caches, or more if the heap has fewer
  * classes. Do not free with the heap what a direct call allocated, nor the other way round. The heap refuses to free an object if
