@@ -51,7 +51,7 @@ def read_table(table):
     """Returns the last line of each column, and the figures by tenant."""
     lines, figures = [], collections.defaultdict(Figures)
     for row in table.splitlines()[1:]:
-        line, tenant, held, taken, refused = map(int, row.split(',')[:5])
+        line, tenant, held, taken, _, refused = map(int, row.split(',')[:6])
         figures[tenant].held.append(held)
         figures[tenant].taken.append(taken)
         figures[tenant].refused.append(refused)

@@ -27,7 +27,7 @@ let playing = null // when playing began, and at which place; null if it does no
 function readTable(text) {
   const columns = []
   for (const row of text.trim().split('\n').slice(1)) {
-    const [line, tenant, held, taken, refused, ...free] = row.split(',').map(Number)
+    const [line, tenant, held, taken, , refused, ...free] = row.split(',').map(Number)
     if (!columns.length || columns.at(-1).line !== line) columns.push({ line, tenants: new Map() })
     columns.at(-1).tenants.set(tenant, { held, taken, refused, free })
   }

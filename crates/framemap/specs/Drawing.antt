@@ -7,6 +7,7 @@ use Rattle.frame_picture.specs.Histories.{line_count, tenants_of}
 use Rattle.picture_svg.specs.declared.picture.Picture.{Picture}
 use Rattle.picture_svg.specs.Pictures.{IsPictureOf, end_of_tenants, first_tenant, label_gap_of, most_columns_in}
 use Rattle.framemap.specs.declared.run.TheConstants.{LABEL_GAP}
+use Rattle.framemap.specs.declared.peaks.Peaks.{Peaks}
 use Rattle.framemap.specs.declared.settings.Settings.{Settings}
 use Rattle.framemap.specs.Tables.{table_text}
 
@@ -28,22 +29,23 @@ pub record IsRequestedPicture (settings : Settings) (picture : Picture) : Type 0
   pub columns : most_columns_in picture ≡ settings.columns
   pub gap : label_gap_of picture ≡ LABEL_GAP
 
--- With `--figures` the text is the table of this history. Otherwise it is the picture of this history, and the name in the title
--- is not specified.
-abbrev pub IsDrawnText : Settings → History → Picture → List ℕ → Type 0
-IsDrawnText settings history picture text = MatchBool settings.figures
-    (text ≡ table_text history (first_drawn settings.machine.only) (end_drawn (tenants_of history) settings.machine.only))
+-- With `--figures` the text is the table of this history and these peaks. Otherwise it is the picture of this history, and the
+-- name in the title is not specified.
+abbrev pub IsDrawnText : Settings → History → Peaks → Picture → List ℕ → Type 0
+IsDrawnText settings history peaks picture text = MatchBool settings.figures
+    (text ≡ table_text history peaks (first_drawn settings.machine.only) (end_drawn (tenants_of history) settings.machine.only))
     ((name : Option (List ℕ)) × IsPictureOf picture history name text)
 
 -- The text shows a history. If the bytes of the trace are known and have fewer than 2 ^ 32 lines, the history counts all of these
 -- lines.
 pub record IsDrawing (settings : Settings) (known : Option (List ℕ)) (text : List ℕ) : Type 0 where
   pub history : History
+  pub peaks : Peaks
   pub picture : Picture
   pub lines : (trace : List ℕ) → known ≡ Some trace → length (lines_of_trace trace) < 2 ^ 32
       → line_count history ≡ length (lines_of_trace trace)
   pub requested : IsRequestedPicture settings picture
-  pub drawn : IsDrawnText settings history picture text
+  pub drawn : IsDrawnText settings history peaks picture text
 
 -- whether the feed has ended, and whether it has failed, after a run with this outcome; ⊥ for outcomes that do not occur
 abbrev pub HasReadTrace : Outcome → (ended failed : Bool) → Type 0

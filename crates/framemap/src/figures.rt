@@ -5,17 +5,25 @@ ghost use Rattle.frame_picture.specs.Stacks.{column_figures, refused_in};
 ghost use Rattle.picture_svg.specs.Texts.{WritesText};
 ghost use Rattle.framemap.specs.Tables.{column_rows, free_cell, heading_text, row_text, table_text};
 
+use crate::peaks::Peaks;
 use frame_picture::history::{Column, Figures, History, ORDERS};
 use std::io::{self, Write};
 
 /// Writes a row of headings, and then a row for each column and each tenant in `first..end`, and flushes.
-pub fn write_figures<W: Write>(out: &mut W, history: &History, first: u8, end: u8) -> io::Result<()>
-    ensures { WritesText result (W.contents out.old) (W.contents out.new) (λ text. text ≡ table_text history.now first end) }
+pub fn write_figures<W: Write>(
+    out: &mut W,
+    history: &History,
+    peaks: &Peaks,
+    first: u8,
+    end: u8,
+) -> io::Result<()>
+    ensures { WritesText result (W.contents out.old) (W.contents out.new) (λ text. text ≡ table_text history.now peaks.now first end) }
 {
     let orders = history.order() as usize + 1;
     write_headings(out, orders)?;
-    for column in history.columns() {
-        write_column(out, column, orders, first, end)?;
+    let columns = history.columns();
+    for at in 0..columns.len() {
+        write_column(out, &columns[at], orders, peaks, at, first, end)?;
     }
     out.flush()
 }
@@ -24,42 +32,51 @@ pub fn write_figures<W: Write>(out: &mut W, history: &History, first: u8, end: u
 fn write_headings<W: Write>(out: &mut W, orders: usize) -> io::Result<()>
     ensures { WritesText result (W.contents out.old) (W.contents out.new) (λ text. text ≡ heading_text orders) }
 {
-    out.write_all(b"line,tenant,held,taken,refused")?;
+    out.write_all(b"line,tenant,held,taken,most,refused")?;
     for order in 0..orders {
         write!(out, ",free{order}")?;
     }
     out.write_all(b"\n")
 }
 
-/// Writes the rows of a column, one for each tenant in `first..end`.
+/// Writes the rows of the column with this index, one for each tenant in `first..end`.
 fn write_column<W: Write>(
     out: &mut W,
     column: &Column,
     orders: usize,
+    peaks: &Peaks,
+    at: usize,
     first: u8,
     end: u8,
 ) -> io::Result<()>
     requires { orders ≤ ORDERS }
     ensures { WritesText result (W.contents out.old) (W.contents out.new)
-        (λ text. text ≡ column_rows orders first end column.now) }
+        (λ text. text ≡ column_rows orders peaks.now first end at column.now) }
 {
     for t in first..end {
-        write_row(out, column, orders, t)?;
+        write_row(out, column, orders, peaks.most(t, at), t)?;
     }
     Ok(())
 }
 
 /// Writes the row of tenant `t` for a column: the number of lines run so far, the tenant's number, its held frames, its taken
-/// frames, its requests that were refused so far for lack of frames, and its free blocks of each order.
-fn write_row<W: Write>(out: &mut W, column: &Column, orders: usize, t: u8) -> io::Result<()>
+/// frames, the most of them in the column, its requests that were refused so far for lack of frames, and its free blocks of each
+/// order.
+fn write_row<W: Write>(
+    out: &mut W,
+    column: &Column,
+    orders: usize,
+    most: u32,
+    t: u8,
+) -> io::Result<()>
     requires { orders ≤ ORDERS }
-    ensures { WritesText result (W.contents out.old) (W.contents out.new) (λ text. text ≡ row_text orders column.now t) }
+    ensures { WritesText result (W.contents out.old) (W.contents out.new) (λ text. text ≡ row_text orders column.now most t) }
 {
     let figures = figures_of(column, t);
     let (held, taken) = (figures.held, figures.taken);
     let line = column.line;
     let refused = refused_to(column, t);
-    write!(out, "{line},{t},{held},{taken},{refused}")?;
+    write!(out, "{line},{t},{held},{taken},{most},{refused}")?;
     write_cells(out, &figures.free[..orders])?;
     out.write_all(b"\n")
 }

@@ -10,6 +10,7 @@ ghost use Rattle.std.specs.Prelude.{◌≡◌, OnErr};
 ghost use Rattle.command_line.specs.declared.outcome.Outcome.{Outcome};
 
 mod figures;
+mod peaks;
 mod run;
 mod settings;
 mod watched;

@@ -10,6 +10,7 @@ ghost use Rattle.framemap.specs.Drawing.{HasReadTrace, IsDrawing, IsDrawnText};
 ghost use Rattle.framemap.specs.Watching.{HasWatched};
 
 use crate::figures::write_figures;
+use crate::peaks::Peaks;
 use crate::settings::Settings;
 use crate::watched::Watched;
 use command_line::Outcome;
@@ -74,13 +75,27 @@ pub fn run<F: Feed, W: Write>(
         return Drawn::at_once(Outcome::NoMemory);
     };
     picture.set_label_gap(LABEL_GAP);
-    let mut watched = Watched { history, events: 0 };
+    // The picture shows no peaks, so without `--figures` there are peaks of no tenant.
+    let tenants = if settings.figures {
+        history.tenants()
+    } else {
+        0
+    };
+    let Ok(peaks) = Peaks::new(alloc, tenants, settings.columns) else {
+        return Drawn::at_once(Outcome::NoMemory);
+    };
+    let mut watched = Watched {
+        history,
+        peaks,
+        named: None,
+        events: 0,
+    };
     match watch(&mut kernel, feed, &mut watched) {
         Ok(()) => {}
         Err(EndFailed::Feed) => return Drawn::at_once(Outcome::Unreadable),
         Err(EndFailed::Drain) => return Drawn::at_once(Outcome::Unwritable),
     }
-    let outcome = match write(settings, &watched.history, &mut picture, writer) {
+    let outcome = match write(settings, &watched, &mut picture, writer) {
         Ok(()) => Outcome::Done,
         Err(_) => Outcome::Unwritable,
     };
@@ -93,18 +108,20 @@ pub fn run<F: Feed, W: Write>(
 /// Writes the picture of a history, or the table of its figures.
 fn write<W: Write>(
     settings: &Settings,
-    history: &History,
+    watched: &Watched,
     picture: &mut Picture,
     writer: &mut W,
 ) -> io::Result<()>
-    ensures { WritesText result (W.contents writer.old) (W.contents writer.new) (IsDrawnText settings.now history.now picture.old) }
+    ensures { WritesText result (W.contents writer.old) (W.contents writer.new)
+        (IsDrawnText settings.now watched.now.history watched.now.peaks picture.old) }
 {
+    let history = &watched.history;
     if settings.figures {
         let (first, end) = match settings.machine.only {
             Some(t) => (t, t.saturating_add(1)),
             None => (0, history.tenants() as u8),
         };
-        return write_figures(writer, history, first, end);
+        return write_figures(writer, history, &watched.peaks, first, end);
     }
     let name = settings.file.as_deref().map(file_name);
     picture.draw(history, name, writer)
@@ -131,6 +148,6 @@ fn watch<F: Feed>(kernel: &mut Kernel, feed: &mut F, watched: &mut Watched) -> R
     // Only for the proof: the feed has at most `room` bytes, so the trace has at most `room` events.
     let _most = feed.room();
     do_lines(kernel, watched, feed, &mut unheard)?;
-    watched.history.end(kernel);
+    watched.peaks.end(&mut watched.history, kernel);
     Ok(())
 }

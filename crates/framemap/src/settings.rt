@@ -30,7 +30,8 @@ const AFTER_HELP: &str = "\
 The picture is one SVG on standard output. The lines of a trace are those of partmem --help.
 
 The table of --figures has comma-separated values. A row is a tenant in a column: the lines run until then, the tenant, its
-frames that are held and taken, its requests refused for want of frames, and its free blocks of each order.
+frames that are held and taken, the most that were taken in the column, its requests refused for want of frames, and its free
+blocks of each order.
 
 Exit status:
   0  the trace is done, and its picture or table written; or --help or --version

@@ -1,21 +1,27 @@
 //! Runs the lines of a trace for a picture.
 
-ghost use Rattle.std.specs.Prelude.{◌≡◌, ℕ, ◌+◌, ◌^◌, ◌<◌, ◌≤◌, List, Option, length};
+ghost use Rattle.std.specs.Prelude.{◌≡◌, ◌≢◌, ℕ, ◌+◌, ◌^◌, ◌<◌, ◌≤◌, false, List, Option, Some, length};
+ghost use Rattle.kernel_core.specs.Steps.{is_named};
 ghost use Rattle.frame_picture.specs.Histories.{line_count};
 ghost use Rattle.replay_core.specs.Doing.{HasGone};
 ghost use Rattle.framemap.specs.Watching.{watches};
 
+use crate::peaks::Peaks;
 use frame_picture::history::History;
 use kernel_core::Kernel;
 use model_core::limits::MAX_BYTES;
 use quick_core::{CR_LF, LF, read_ended_request};
 use replay_core::{Drain, Sink, Stopped};
-use words_core::{Addressee, Answer, Event, LineFault, Refusal};
+use words_core::{Addressee, AdminCommand, Answer, Event, LineFault, Refusal};
 
 /// Keeps the history of the machine's states over the lines of a trace, and counts the events. No reply is written.
 #[derive(Debug, Drop)]
 pub struct Watched {
     pub history: History,
+    /// The peaks of the tenants in the columns of the history, or of no tenant if they are not wanted.
+    pub peaks: Peaks,
+    /// The tenant that the line names, if it names one.
+    pub named: Option<u32>,
     /// The number of events in the lines.
     pub events: u64,
 }
@@ -41,7 +47,8 @@ impl Watched {
             if let Some((t, answer)) = kernel.ask(line.tenant, line.request) {
                 self.note_refusal(Addressee::Tenant(t), answer);
             }
-            self.history.add_line(kernel);
+            self.peaks
+                .add_line(&mut self.history, kernel, Some(line.tenant));
             self.events += 1;
             rest = &rest[len..];
         }
@@ -91,12 +98,13 @@ impl Sink for Watched {
     fn answered<D: Drain>(
         &mut self,
         _line: &[u8],
-        _event: &Event,
+        event: &Event,
         addressee: Addressee,
         answer: Answer<'_>,
         _drain: &mut D,
     ) -> Result<(), Stopped> {
         self.events += 1;
+        self.named = tenant_named_by(event);
         self.note_refusal(addressee, answer);
         Ok(())
     }
@@ -124,8 +132,25 @@ impl Sink for Watched {
     fn blank(&mut self) {}
 
     fn ran(&mut self, kernel: &Kernel) {
-        self.history.add_line(kernel);
+        self.peaks.add_line(&mut self.history, kernel, self.named);
+        self.named = None;
     }
 
     fn unended(&mut self, _reading: Result<Option<Event>, LineFault>, _front: &[u8]) {}
+}
+
+/// Returns the number of the tenant that an event names, which need not exist, or `None` if it names no tenant.
+fn tenant_named_by(event: &Event) -> Option<u32>
+    ensures { (t : ℕ) → result ≢ Some t → is_named t event.now ≡ false }
+{
+    match event {
+        Event::Tenant(tenant, _)
+        | Event::Admin(
+            AdminCommand::Grant { tenant }
+            | AdminCommand::TakeBack { tenant, .. }
+            | AdminCommand::Reset { tenant }
+            | AdminCommand::Move { tenant, .. },
+        ) => Some(*tenant),
+        Event::Admin(AdminCommand::Pool) => None,
+    }
 }

@@ -6,7 +6,7 @@ use Rattle.framemap.proofs.figures.write_row.Goals as goal
 
 pub returns : goal.returns
 returns g c =
-    last_exactly (g.W.Write.contents c.write_all.new.self) c.write_all.result (codes "\n") (row_text c.args.orders c.args.column.now c.args.t)
+    last_exactly (g.W.Write.contents c.write_all.new.self) c.write_all.result (codes "\n") (row_text c.args.orders c.args.column.now c.args.most c.args.t)
     (then_text (exactly (g.W.Write.contents c.args.out.now) (g.W.Write.contents c.write.new.self) _ c.in_ok-write.ensures.bytes)
     c.in_ok-write_cells.ensures) c.write_all.ensures.bytes
-    (row_is c.args.orders c.args.column.now.line c.args.t _ _ _ _ c.figures_of-figures.ensures c.refused_to-refused.ensures)
+    (row_is c.args.orders c.args.column.now.line c.args.t _ _ _ _ _ c.figures_of-figures.ensures c.refused_to-refused.ensures)

@@ -20,6 +20,7 @@ pub returns-clause-drawn : goal.returns-clause-drawn
 returns-clause-drawn g c done =
     let settings = c.args.settings.now in
     let history = c.watch.new.watched.history in
+    let peaks = c.watch.new.watched.peaks in
     let picture = c.set_label_gap.new.self in
     let only = settings.machine.only in
     let tenants = c.in-Ok-new.ensures.tenants ∙ ap (λ k. k.tenants) c.in-Ok.ensures.parts ∙ opening_tenants _ _ _ in
@@ -34,11 +35,12 @@ returns-clause-drawn g c done =
     elim c.match-write.branch [
       | in-Ok-write w ↦
           let written = subst (λ r. OnOk r (AppendsText (g.W.Write.contents c.args.writer.now) (g.W.Write.contents c.write.new.writer)
-          (IsDrawnText settings history picture))) w.in-Ok-write.is c.write.ensures in record {
+          (IsDrawnText settings history peaks picture))) w.in-Ok-write.is c.write.ensures in record {
             text = written.text;
             appended = written.appended;
             is = record {
               history = history;
+              peaks = peaks;
               picture = picture;
               lines = λ trace is within.
                   let here = on_ok c.watch.result c.in-Ok-watch.is (c.watch.ensures.watched trace is) in
