@@ -29,15 +29,15 @@ LAYER = re.compile(r'<path class="(?P<classes>cells d(?P<depth>\d))" transform="
 
 
 class Figures:
-    """The figures of a tenant, in lists by column: the frames that it holds, how many of these are taken, and how often it has
-    been refused frames up to the column."""
+    """The figures of a tenant, in lists by column: the frames that it holds after the column, how many of these are taken, the
+    most that were taken in the column, and how often it has been refused frames up to the column."""
 
     def __init__(self):
-        self.held, self.taken, self.refused = [], [], []
+        self.held, self.taken, self.most, self.refused = [], [], [], []
 
-    def at_most(self):
-        """Returns the most frames that are taken in a column, and how many are held in this column."""
-        return max(zip(self.taken, self.held), default=(0, 0))
+    def peak(self):
+        """Returns the most frames that are taken after any line. It does not depend on the number of columns."""
+        return max(self.most, default=0)
 
     def refusing(self):
         """Returns the numbers of the columns in whose lines the tenant was refused frames."""
@@ -51,9 +51,10 @@ def read_table(table):
     """Returns the last line of each column, and the figures by tenant."""
     lines, figures = [], collections.defaultdict(Figures)
     for row in table.splitlines()[1:]:
-        line, tenant, held, taken, _, refused = map(int, row.split(',')[:6])
+        line, tenant, held, taken, most, refused = map(int, row.split(',')[:6])
         figures[tenant].held.append(held)
         figures[tenant].taken.append(taken)
+        figures[tenant].most.append(most)
         figures[tenant].refused.append(refused)
         if not lines or line != lines[-1]:
             lines.append(line)

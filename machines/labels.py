@@ -157,8 +157,10 @@ class Band:
                f'transform="translate(0 {moved})">')
         yield text(f'{name}<title>tenant {self.tenant}: {full}</title>', self.y - NAME_LINE, LEFT, 'tenant')
         yield (self.found['note'] or '').replace(f' y="{self.y}"', f' y="{self.y - NAME_LINE}"').rstrip()
-        at_most, at_end = unit.share(*self.figures.at_most()), unit.share(*self.figures.at_end())
-        yield text(f'{self.found["figures"]} · {at_most} at most, {at_end} at the end', self.y, LEFT + INDENT)
+        peak, at_end = self.figures.peak(), ' of '.join(map(unit.rounded, self.figures.at_end()))
+        # framemap draws the most of the last lines of all columns: less than the peak if that lies between them.
+        figures = re.sub(r'at most \d+ taken', f'at most {peak} taken', self.found['figures'])
+        yield text(f'{figures} · {unit.rounded(peak)} {unit.name} at most, {at_end} {unit.name} at the end', self.y, LEFT + INDENT)
         yield from self.draw_window(titled, order)
         yield self.draw_axes()
         yield self.found['word'].rstrip()

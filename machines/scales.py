@@ -21,9 +21,9 @@ class Unit:
     def of(self, frames):
         return plain(frames * FRAME / self.bytes)
 
-    def share(self, frames, whole):
-        """Returns the text `X of Y UNIT`: the bytes of `frames` and of `whole` frames, each rounded to a tenth of the unit."""
-        return f'{plain(round(frames * FRAME / self.bytes, 1))} of {plain(round(whole * FRAME / self.bytes, 1))} {self.name}'
+    def rounded(self, frames):
+        """Returns the bytes of these frames, rounded to a tenth of the unit."""
+        return plain(round(frames * FRAME / self.bytes, 1))
 
 
 def step_of(whole):
