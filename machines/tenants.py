@@ -1,4 +1,4 @@
-"""What from-kmem and from-malloc share: tenants that request page blocks and objects from a running partmem, and write each line
+"""What from-kmem and from-malloc share: tenants that request page blocks and objects from a running partmem, and write the lines
 that they send as a trace. Where a block or an object lies, and whether memory is left, they only learn from partmem's replies.
 """
 import argparse
@@ -231,8 +231,14 @@ class Machine:
         write(f'# partmem {sizes}')
 
     def ask(self, line):
-        """Sends a line, and writes it to the trace. Returns the words of the reply after its actor, or None if the line was
-        refused for want of frames or of superblocks, or because the slot is still in use. Any other refusal is a failure."""
+        """Sends a line, and writes it to the trace. Returns what `send` returns."""
+        words = self.send(line)
+        write(line)
+        return words
+
+    def send(self, line):
+        """Sends a line. Returns the words of the reply after its actor, or None if the line was refused for want of frames or of
+        superblocks, or because the slot is still in use. Any other refusal is a failure."""
         try:
             self.program.stdin.write(line + '\n')
             self.program.stdin.flush()
@@ -241,7 +247,6 @@ class Machine:
             words = []
         if not words:
             fail(f'partmem has ended with status {self.program.wait()}, and did not answer "{line}"')
-        write(line)
         if words[0] != 'refused':
             return words
         return None if words[1] in ('1', '13', '15') else fail(f'partmem answered "{line}" by "{" ".join(words)}"')
@@ -297,10 +302,12 @@ class Tenant:
 
     def request(self, line):
         """Sends a request. If it is refused and the tenant can be granted a superblock, sends it again. Returns the frame or the
-        place in the reply, or None if the request was refused."""
-        words = self.machine.ask(line)
+        place in the reply, or None if the request was refused. The trace has the request once: a refused request changes nothing,
+        so one that is met after a grant is left out before it."""
+        words = self.machine.send(line)
         if not words and self.machine.grant(self):
-            words = self.machine.ask(line)
+            words = self.machine.send(line)
+        write(line)
         return words and int(words[1])
 
     def keep(self, parts, part):
