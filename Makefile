@@ -13,9 +13,10 @@ OVER_PROGRAMS := hostile-bytes refused-memory instructions conformance plain-mac
     command-lines partcheck examples
 #   the library for C, and some of them the programs too:
 OVER_LIBRARY := same-path kernel-archives objtool in-place heap watched cpp use-from-c pasted demo-kernel linux rust \
-    costs stack install
+    costs stack install browser-page
 CHECKS := $(addprefix check-,$(FROM_SOURCES) $(OVER_PROGRAMS) $(OVER_LIBRARY))
-.PHONY: list list-tests try unproved quick prove test check tools proved library install uninstall release bench soak $(CHECKS)
+.PHONY: list list-tests try unproved quick prove test check tools proved library browser install uninstall release bench \
+    soak $(CHECKS)
 
 list: ; @sed -n "s/^\([a-z-]*\):[^#]*## /make \1\t/p" Makefile | expand -t 18
 try: ## runs partmem on an example, without proofs (2 minutes)
@@ -37,6 +38,8 @@ test: ## proves everything, tries the wrong bodies, and runs all tests
 check: tools $(CHECKS) ## runs all tests over what `rt ci` has proved
 library: proved ## builds the library for C from what `rt ci` has proved
 	tools/library
+browser: library ## makes the page on which you try to disturb a tenant
+	browser/make
 install: ## installs what is proved under PREFIX (out/installed), archives in LIBDIR (lib), all below DESTDIR if it is set
 	DESTDIR='$(DESTDIR)' ./install --libdir '$(LIBDIR)' '$(PREFIX)'
 uninstall: ## removes what `make install` puts there with the same variables
@@ -52,6 +55,7 @@ tools: ; @tests/missing-tools
 proved: ; @tests/proofs --still
 $(addprefix check-,$(OVER_PROGRAMS)): proved
 $(addprefix check-,$(OVER_LIBRARY)): library
+check-browser-page: browser
 # Scripts run without the variables of this `make`. A `make` that they run would otherwise print the folders that it enters.
 AS_A_USER := env -u MAKEFLAGS -u MFLAGS -u MAKELEVEL
 # check-NAME runs tests/NAME/run, and check-pasted-first runs tests/pasted/run with --first.
