@@ -109,8 +109,12 @@ function compare(module, lines, isShared = false) {
     const own = isOwn(line, replies)
     events.push({ side, line, isLong, replies, isOwn: own, alone: own && (side !== 'left' || isShared) ? alone.run(line) : null })
   }
-  const text = { here: events.map((it) => ownReplies(it.replies)).join(''), alone: events.map((it) => ownReplies(it.alone ?? '')).join('') }
-  return { here, alone, events, text, isSame: text.here === text.alone, causes: events.filter((it) => it.isOwn && it.alone === null) }
+  const text = {
+    here: events.map((it) => ownReplies(it.replies)).join(''),
+    alone: events.map((it) => ownReplies(it.alone ?? '')).join('')
+  }
+  const causes = events.filter((it) => it.isOwn && it.alone === null)
+  return { here, alone, events, text, isSame: text.here === text.alone, causes }
 }
 
 /** Returns a function that returns random numbers from 0 on and below its argument: the same for the same seed (mulberry32). */
