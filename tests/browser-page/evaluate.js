@@ -1,6 +1,6 @@
 // Evaluates expressions in the page's first script, which needs no document, and writes their values:
 //
-//     node --experimental-wasm-memory64 evaluate.js PAGE
+//     node evaluate.js PAGE
 //
 // Each line of standard input is a JavaScript expression as a JSON string. The line that answers it is a pair in JSON: the value and
 // null, or null and the error. In the expressions, `base64` has the module.
@@ -8,7 +8,10 @@
 
 const fs = require('fs')
 const readline = require('readline')
+const v8 = require('v8')
 const vm = require('vm')
+
+v8.setFlagsFromString('--experimental-wasm-memory64') // node 20 to 23 have 64-bit memories only with it
 
 const page = fs.readFileSync(process.argv[2], 'utf8')
 const context = vm.createContext({
