@@ -6,7 +6,8 @@ import subprocess
 TOP = os.path.dirname(os.path.dirname(os.path.dirname(os.path.abspath(__file__))))
 PROGRAMS = ["partmem", "framemap", "partcheck"]
 ARCHIVES = [f"out/lib/libpartmem{kind}.a" for kind in ("", "_kernel", "_linux", "_watched")]
-BUILT = [*(f"crates/{name}/out/{name}" for name in PROGRAMS), *ARCHIVES]
+MODULE = "out/lib/kernel/module.ll"
+BUILT = [*(f"crates/{name}/out/{name}" for name in PROGRAMS), *ARCHIVES, MODULE]
 # Stands in for the command `rt` if the programs are built: `run` runs the built program, `lib` and `all` do nothing, and
 # the other commands go to the real `rt`.
 RT = r"""#!/bin/sh
