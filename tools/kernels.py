@@ -7,8 +7,8 @@ tools/library builds each by `rattle build` from the same checked crate as the l
 instead. For a call that compiles the library's module, this script adds attributes and last lines to the module's text, and
 compiles it with more flags, all as KERNELS says. All other calls go to CLANG as they are. In FOLDER it leaves the assembly
 (module.s), which tools/one_object.py joins with the assembly of the functions in C. For tests/kernel-archives it also leaves the
-text before the change (module.ll) and after it (changed.ll), and the words of the call (words). Neither a proof nor the kit
-vouches for these flags.
+text before the change (module.ll) and after it (changed.ll), and the words of the call (words). browser/make compiles module.ll
+for WebAssembly. Neither a proof nor the kit vouches for these flags.
 """
 import json
 import os
