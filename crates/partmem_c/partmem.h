@@ -4,12 +4,12 @@
  * from what it was granted, and uses them in place. Whatever the others do, a tenant gets the same results and finds the same
  * bytes as if it were alone with the same grants, take-backs and resets, if the caller keeps the DUTIES at the end of this file.
  *
- * That is PROVED of the library's source in Rattle, for commands, loads and stores one after another, where loads and stores name
- * their bytes by places and not by addresses. Numbers of superblocks are the administrator's, and depend on all tenants. TESTED:
- * that an address leads to the bytes of its place, and stays; loads and stores during calls of other threads; the functions in C,
- * which are partmem_boot, partmem_boot_in, partmem_end, partmem_superblock_address, partmem_find_place, partmem_strerror,
- * partmem_version and the three inline functions of this file. NEITHER: that the duties are kept, the hardware, and time. The
- * last comment of this file says each exactly.
+ * That is PROVED of the library's source in Rattle, for commands, lookups, loads and stores one after another. Lookups, loads and
+ * stores name their bytes by places there, and not by addresses. Numbers of superblocks are the administrator's, and depend on all
+ * tenants. TESTED: that an address leads to the bytes of its place, and stays; loads and stores during calls of other threads; the
+ * functions in C, which are partmem_boot, partmem_boot_in, partmem_end, partmem_superblock_address, partmem_find_place,
+ * partmem_strerror, partmem_version and the three inline functions of this file. NEITHER: that the duties are kept, the hardware,
+ * and time. The last comment of this file says each exactly.
  *
  *     frame       4096 bytes
  *     superblock  2^order frames of RAM: order 3 to 8, superblocks 1 to 256, tenants 1 to 64. Numbered from 0 in a machine.
