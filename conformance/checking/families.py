@@ -2,8 +2,9 @@
 the number of a slot, a cache, a block's first frame or an object's first place."""
 import collections
 import contextlib
+import functools
 
-from .runs import Places, names_in, tenant_of
+from .runs import Places, parts_of, tenant_of
 from .words import FRAME_BYTES, number_in, order_in, told_in
 
 
@@ -14,20 +15,20 @@ class Givers:
         self.order = order
         self.slots, self.caches, self.sizes, self.places = {}, {}, {}, Places()
 
-    def needs(self, at, words, told):
-        """Returns the lines that line `at` needs, and notes what it gives."""
+    def needs(self, at, words, told, named):
+        """Returns the lines that line `at` needs, and notes what it gives. `named` is names_in(words)."""
         kind, needed = told[0] if told else '', []
         if len(words) > 1 and kind != 'fault':
             with contextlib.suppress(IndexError, ValueError):
-                needed = self.named(words)
+                needed = self.named(words, named)
                 needed.append(self.slot_of_new(at, words, told, kind))
         if words[:2] == ['admin', 'reset'] and kind == 'reset':
             self.__init__(self.order)
         return {line for line in needed if line is not None}
 
-    def named(self, words):
+    def named(self, words, named):
         """Returns the lines that gave what these words name."""
-        numbers = [(kind, number_in(words[at])) for at, kind in names_in(words)]
+        numbers = [(kind, int(words[at])) for at, kind in named]
         return [self.slots.get(number) if kind == 'slot' else self.caches.get(number) if kind == 'cache' else
                 self.giver(number * FRAME_BYTES if kind == 'frame' else number) for kind, number in numbers]
 
@@ -51,13 +52,16 @@ class Givers:
         return None
 
 
+# Several kinds of changes of the same run need its families.
+@functools.lru_cache(1)
 def families_of(run):
     """Returns for each line the lines that cannot be kept without it: itself, and those that need what it gives, directly or
     through other lines."""
     tenants = collections.defaultdict(lambda: Givers(run.sizes.order))
     families, needed = [], []
     for at, (line, replies) in enumerate(run.exchanges):
-        direct = tenants[tenant_of(line)].needs(at, line.split(), told_in(replies))
+        words, _, named = parts_of(line)
+        direct = tenants[tenant_of(line)].needs(at, words, told_in(replies), named)
         needed.append(direct.union(*(needed[one] for one in direct)))
         families.append({at})
         for one in needed[at]:

@@ -1,11 +1,11 @@
 """Tests a run: partcheck judges its replies, and a tenant's replies are compared with those in another run of its own list."""
-import os
+import contextlib
 import re
 import subprocess
 import tempfile
 from typing import NamedTuple, Optional, Union
 
-from .runs import Run, replayed
+from .runs import Run, replayed, said_again
 from .talk import BABBLES, Failure
 from .words import ending, visible, words_of
 
@@ -71,36 +71,40 @@ class Judge:
         breach = self.broken_promise(run)
         return breach if breach and breach.kind != 'Form' else None
 
-    def run_tool(self, program, statuses, sizes, *files, **given):
-        """Runs partcheck or partmem, which has to end with one of these statuses."""
-        try:
-            ran = subprocess.run([program, *words_of(sizes), *files], capture_output=True, **given)
-        except OSError as error:
-            raise Unusable(f'cannot run {program}: {error.strerror}') from None
-        if ran.returncode not in statuses:
-            said = visible(ran.stderr.decode('utf-8', 'replace').strip())
-            raise Unusable(f'{program} ended {ending(ran.returncode)}' + (said and f': {said}'))
-        return ran
+    def run_tool(self, program, statuses, sizes, *texts):
+        """Runs partcheck or partmem on files with these texts. It has to end with one of these statuses. Returns the status and
+        what it prints."""
+        with contextlib.ExitStack() as opened:
+            files = [opened.enter_context(tempfile.TemporaryFile()) for _ in range(len(texts) + 2)]
+            for file, text in zip(files, texts):
+                file.write(text.encode('latin-1'))
+                file.flush()
+            *given, told, complained = (file.fileno() for file in files)
+            command = [program, *words_of(sizes), *(f'/dev/fd/{number}' for number in given)]
+            try:
+                with subprocess.Popen(command, stdin=subprocess.DEVNULL, stdout=told, stderr=complained, pass_fds=given) as ran:
+                    status = ran.wait()
+            except OSError as error:
+                raise Unusable(f'cannot run {program}: {error.strerror}') from None
+            told, complained = (file.seek(0) or file.read() for file in files[-2:])
+        if status not in statuses:
+            said = visible(complained.decode('utf-8', 'replace').strip())
+            raise Unusable(f'{program} ended {ending(status)}' + (said and f': {said}'))
+        return status, told
 
     def broken_promise(self, run):
         """Returns what partcheck finds in the replies, if a promise is broken."""
-        with tempfile.TemporaryDirectory(prefix='partmem-check-') as work:
-            files = [os.path.join(work, name) for name in ('trace', 'replies')]
-            for file, text in zip(files, (run.trace(), run.text())):
-                with open(file, 'wb') as opened:
-                    opened.write(text.encode('latin-1'))
-            ran = self.run_tool(self.partcheck, (ALLOWED, NOT_ALLOWED), run.sizes, *files)
-        if ran.returncode == ALLOWED:
+        status, told = self.run_tool(self.partcheck, (ALLOWED, NOT_ALLOWED), run.sizes, run.trace(), run.text())
+        if status == ALLOWED:
             return None
-        said = ran.stdout.decode('utf-8', 'replace').strip()
+        said = told.decode('utf-8', 'replace').strip()
         found = PROMISE.match(said)
         if found is None:
             raise Unusable(f'{self.partcheck} prints no finding: {visible(said)}')
         return Breach(found[2], said[:found.start(2)] + said[found.end():], line=int(found[1]))
 
     def compared_with_partmem(self, run):
-        ran = self.run_tool(self.partmem, (0,), run.sizes, input=run.trace().encode('latin-1'))
-        told = ran.stdout.decode('latin-1')
+        told = self.run_tool(self.partmem, (0,), run.sizes, run.trace())[1].decode('latin-1')
         lines = enumerate(zip((told + '\n').split('\n'), (run.text() + '\n').split('\n')), 1)
         first = next(((at, *map(visible, pair)) for at, pair in lines if pair[0] != pair[1]), None)
         return first and Breach('Exact', "reply line {}: partmem says '{}', the program '{}'".format(*first))
@@ -109,13 +113,15 @@ class Judge:
         """Runs the tenant's own list alone. Returns a case if the tenant gets other replies then, or if the program fails. If the
         run has no other lines, the program is not deterministic."""
         own = run.own_list(tenant)
-        other = replayed(self.programs, run.sizes, [(line, []) for line in own])
-        where = 'alone' if own != [line for line, _ in run.exchanges] else 'again, which is all of these lines'
+        other = said_again(self.programs, run.sizes, own)
+        where = 'alone' if len(own) < len(run.exchanges) else 'again, which is all of these lines'
         return Case(other, other.failure) if other.failure else self.compared(run, other, tenant, where)
 
     def compared(self, run, other, tenant, where):
-        pairs = zip(run.told(tenant) + ['nothing'], other.told(tenant) + ['nothing'])
-        for at, (one, two) in enumerate(pairs, 1):
+        here, there = run.told(tenant), other.told(tenant)
+        if here == there:
+            return None
+        for at, (one, two) in enumerate(zip(here + ['nothing'], there + ['nothing']), 1):
             if one != two:
                 words = f"its reply line {at} is '{visible(one)}' here, and '{visible(two)}' when its own list is run {where}"
                 return Case(run, Breach('Alone', words, tenant, line_of_reply(run, tenant, at)))

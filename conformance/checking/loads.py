@@ -5,7 +5,7 @@ from typing import NamedTuple, Optional
 from .judge import Case, Judge
 from .maker import OF_CACHES, Maker, Phase
 from .plans import ALL, Planner
-from .runs import Run, is_own
+from .runs import Run, is_own, naming
 from .talk import Programs
 from .words import Sizes
 
@@ -104,7 +104,7 @@ def refused_for_want(world):
 def most_held(lines):
     """Returns the most slots that a tenant holds at a time while the lines of its own list run."""
     held = most = 0
-    for words in map(str.split, lines):
+    for words in (line.split() for line in lines if line.lstrip().startswith('admin')):
         step = words[1] if words[0] == 'admin' else ''
         held = held + (step == 'grant') - (step == 'takeback') if step != 'reset' else 0
         most = max(most, held)
@@ -114,17 +114,17 @@ def most_held(lines):
 def between_noise(programs, before, tenant, maker):
     """Runs a tenant's own list from an earlier run again, between new lines of the other tenants. The other tenants leave enough
     superblocks for the grants of the own list."""
-    sizes, lines = before.sizes, before.own_list(tenant)
+    sizes, lines = before.sizes, [line for line, _ in before.own_list(tenant)]
     others = [number for number in range(sizes.tenants) if number != tenant]
     noise = Phase(0, ALL, others, [0, 0, 0, 1, 1, 2, sizes.order])
-    run, left = Run(programs, sizes), sizes.superblocks - most_held(lines)
+    run, left, may_name = Run(programs, sizes), sizes.superblocks - most_held(lines), naming(tenant).match
     for at in range(0, len(lines), OWN_AT_ONCE):
         held, said = sum(len(run.world.tenants[other].slots) for other in others), []
         for line in lines[at:at + OWN_AT_ONCE]:
             for _ in range(maker.rng.randrange(MAX_NOISE + 1) if others else 0):
                 other = maker.line(run.world, noise)
                 is_grant = other.startswith('admin grant')
-                if not is_own(tenant, other, ['']) and (not is_grant or held < left):
+                if not (may_name(other) and is_own(tenant, other, [''])) and (not is_grant or held < left):
                     said.append(other)
                     held += is_grant
             said.append(line)

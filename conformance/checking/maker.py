@@ -1,5 +1,4 @@
 """Makes lines. Most numbers in them name something that exists. The others are wrong, and often at an edge."""
-import functools
 from typing import NamedTuple, Optional
 
 from .words import FRAME_BYTES, MAX_BYTES, MAX_NUMBER
@@ -52,7 +51,6 @@ class Phase(NamedTuple):
     slot: Optional[int] = None                                  # the number of that slot
 
 
-@functools.cache
 def commands_of(weights, without):
     """Returns the commands of a text such as `alloc 5 free 4`, each as often as the number after it says. Leaves out those of
     `without`."""
@@ -62,26 +60,32 @@ def commands_of(weights, without):
 
 class Maker:
     def __init__(self, rng, without):
-        self.rng, self.without = rng, tuple(without)
+        self.rng, self.random, self.without, self.of = rng, rng.random, frozenset(without), {}
 
     def commands(self, phase):
         """Returns the commands of a phase that are not left out. There may be none."""
-        return commands_of(phase.weights, self.without)
+        commands = self.of.get(phase.weights)
+        if commands is None:
+            commands = self.of[phase.weights] = commands_of(phase.weights, self.without)
+        return commands
 
     def lines(self, world, phase, count):
         return [self.line(world, phase) for _ in range(count)]
 
     def line(self, world, phase):
-        tenant = self.one(phase.tenants)
-        command = self.one(self.commands(phase))
-        if command in OF_TENANT and not world.tenants[tenant].slots and self.rng.random() < 0.6:
-            tenant, command = self.for_a_slot(world, tenant)
+        number = self.one(phase.tenants)
+        command, tenant = self.one(self.commands(phase)), world.tenants[number]
+        if not tenant.slots.keys and command in OF_TENANT and self.random() < 0.6:
+            number, command = self.for_a_slot(world, number)
+            tenant = world.tenants[number]
         if command == 'fault':
             return self.one(FAULTY)
         if command in OF_ADMIN:
-            return self.admin(world, phase, tenant, command)
-        actor = tenant if self.is_right(phase, 0.995) else self.no_tenant(world)
-        return ' '.join(map(str, [actor, *self.command(world, phase, world.tenants[tenant], command)]))
+            return self.admin(world, phase, number, command)
+        actor = number if phase.is_plain or self.random() < 0.995 else self.no_tenant(world)
+        command = self.possible(tenant, command)
+        made = MADE.get(command)
+        return f'{actor} {command} {made(self, world, phase, tenant)}' if made else f'{actor} {command}'
 
     def for_a_slot(self, world, tenant):
         """Returns a tenant and an administrator's command for it. If a superblock is free, this is a grant to `tenant`. Otherwise
@@ -92,16 +96,16 @@ class Maker:
         return self.one(owners or [tenant]), self.one(['reset', 'takeback', 'takeback', 'grant'])
 
     def one(self, items):
-        return items[int(self.rng.random() * len(items))]
+        return items[int(self.random() * len(items))]
 
     def is_right(self, phase, chance):
         """Returns whether a number has to be right: always if the phase is plain, else with this chance."""
-        return phase.is_plain or self.rng.random() < chance
+        return phase.is_plain or self.random() < chance
 
     def admin(self, world, phase, tenant, command):
-        if command == 'pool' and self.rng.random() * world.sizes.superblocks < 16:
+        if command == 'pool' and self.random() * world.sizes.superblocks < 16:
             return 'admin pool'
-        slot = self.slot(world, phase, world.tenants[tenant].slots) if command in ('takeback', 'move') else ''
+        slot = self.slot(world, phase, world.tenants[tenant].slots.keys) if command in ('takeback', 'move') else ''
         actor = tenant if self.is_right(phase, 0.97) else self.no_tenant(world)
         return f'admin {"grant" if command == "pool" else command} {actor} {slot}'.rstrip()
 
@@ -111,45 +115,38 @@ class Maker:
 
     def slot(self, world, phase, slots):
         if slots and self.is_right(phase, 0.92):
-            return slots.draw(self.rng) if phase.slot is None else phase.slot
-        return self.near(slots.draw(self.rng) if slots else 0, 1, [1 << 20 - world.sizes.order, 1 << 32 - world.sizes.order])
+            return self.one(slots) if phase.slot is None else phase.slot
+        return self.near(self.one(slots) if slots else 0, 1, [1 << 20 - world.sizes.order, 1 << 32 - world.sizes.order])
 
     def near(self, number, span, spans=()):
         """Returns a number that is probably wrong: it is next to this one, or differs from it by `span`, 2^8, 2^16 or one of
         `spans`, or is at an edge. A program that uses too few bits may take it for this one."""
         spans = [1, span, 1 << 8, 1 << 16, *spans]
-        wrong = number + self.one([1, 1, -1]) * self.one(spans) if self.rng.random() < 0.7 else self.one(EDGES)
+        wrong = number + self.one([1, 1, -1]) * self.one(spans) if self.random() < 0.7 else self.one(EDGES)
         return min(max(wrong, 0), MAX_NUMBER)
 
-    def command(self, world, phase, tenant, command):
-        """Returns the words of a line after its actor: the command and its arguments. May replace a command that would have
-        nothing to name."""
-        if command == 'free' and not tenant.pages and self.rng.random() < 0.8:
+    def possible(self, tenant, command):
+        """Returns the command, or often another one if the command would have nothing to name, or is left out."""
+        if command == 'free' and not tenant.pages.keys and self.random() < 0.8:
             command = 'alloc'
-        if command == 'give' and not tenant.objects and self.rng.random() < 0.8:
+        if command == 'give' and not tenant.objects.keys and self.random() < 0.8:
             command = 'take'
-        if command in ('take', 'destroy') and not tenant.caches and self.rng.random() < 0.8:
+        if command in ('take', 'destroy') and not tenant.caches.keys and self.random() < 0.8:
             command = 'cache'
         if command in self.without:
             command = self.one([name for name in OF_TENANT if name not in self.without] or ['report'])
-        if command == 'alloc':
-            return command, self.order(world, phase)
-        if command == 'free':
-            return command, self.page(world, phase, tenant)
-        if command == 'read':
-            place, length = self.range(world, tenant)
-            return command, place, length if self.rng.random() < 0.95 else self.one(WRONG_LENGTHS)
-        if command == 'write':
-            place, length = self.range(world, tenant)
-            return command, place, self.rng.randbytes(length).hex()
-        if command == 'give':
-            return command, *self.object(world, phase, tenant)
-        if command in ('take', 'destroy'):
-            return command, self.cache(phase, tenant)
-        return (command, *self.layout(phase)) if command == 'cache' else (command,)
+        return command
 
-    def order(self, world, phase):
-        chance = 0 if phase.is_plain else self.rng.random()
+    def read(self, world, phase, tenant):
+        place, length = self.range(world, tenant)
+        return f'{place} {length if self.random() < 0.95 else self.one(WRONG_LENGTHS)}'
+
+    def write(self, world, phase, tenant):
+        place, length = self.range(world, tenant)
+        return f'{place} {self.rng.randbytes(length).hex()}'
+
+    def order(self, world, phase, _tenant):
+        chance = 0 if phase.is_plain else self.random()
         if chance < 0.96:
             return self.one(phase.orders)
         return self.one([world.sizes.order, world.sizes.order + 1]) if chance < 0.98 else self.one(WRONG_ORDERS)
@@ -158,69 +155,72 @@ class Maker:
         """Returns a number from the bag. If the phase has a slot, and numbers of that slot are in the bag, returns one of these.
         Each slot has `places` numbers."""
         inside = [key for key in bag.keys if key // places == phase.slot] if phase.slot is not None else []
-        return self.one(inside) if inside else bag.draw(self.rng)
+        return self.one(inside or bag.keys)
 
     def page(self, world, phase, tenant):
         """Returns the first frame of a block, or rarely another number. The block leaves the bag, so it is not drawn again while
         the reply to its free is awaited."""
-        if tenant.pages and self.is_right(phase, 0.93):
+        if tenant.pages.keys and self.is_right(phase, 0.93):
             first = self.drawn_in(tenant.pages, phase, 1 << world.sizes.order)
             tenant.pages.drop(first)
             return first
-        if tenant.freed and self.rng.random() < 0.3:
+        if tenant.freed and self.random() < 0.3:
             return self.one(tenant.freed)
-        first = tenant.pages.draw(self.rng) if tenant.pages else 0
+        first = self.one(tenant.pages.keys) if tenant.pages.keys else 0
         return self.near(first, 1 << tenant.pages.get(first, 0), [1 << world.sizes.order, 1 << 20])
 
-    def cache(self, phase, tenant):
-        if phase.is_plain and tenant.last_cache in tenant.caches:
+    def cache(self, _world, phase, tenant):
+        if phase.is_plain and tenant.last_cache in tenant.caches.known:
             return tenant.last_cache
-        if tenant.caches and self.is_right(phase, 0.95):
-            return tenant.caches.draw(self.rng)
-        return self.near(tenant.caches.draw(self.rng) if tenant.caches else 0, MAX_CACHES)
+        caches = tenant.caches.keys
+        if caches and self.is_right(phase, 0.95):
+            return self.one(caches)
+        return self.near(self.one(caches) if caches else 0, MAX_CACHES)
 
     def object(self, world, phase, tenant):
-        if tenant.objects and self.is_right(phase, 0.92):
+        """Returns the numbers of a cache and of one of its objects, or rarely other numbers."""
+        if tenant.objects.keys and self.is_right(phase, 0.92):
             place = self.drawn_in(tenant.objects, phase, FRAME_BYTES << world.sizes.order)
             cache = tenant.objects.get(place)
             tenant.objects.drop(place)
-            return cache, place
-        if tenant.given and self.rng.random() < 0.3:
-            return self.one(tenant.given)
-        place = tenant.objects.draw(self.rng) if tenant.objects else 0
-        cache = tenant.objects.get(place, 0)
-        return self.one([(cache, self.near(place, 16, [FRAME_BYTES])), (self.cache(phase, tenant), place)])
+        elif tenant.given and self.random() < 0.3:
+            cache, place = self.one(tenant.given)
+        else:
+            place = self.one(tenant.objects.keys) if tenant.objects.keys else 0
+            cache = tenant.objects.get(place, 0)
+            cache, place = self.one([(cache, self.near(place, 16, [FRAME_BYTES])), (self.cache(world, phase, tenant), place)])
+        return f'{cache} {place}'
 
-    def layout(self, phase):
+    def layout(self, _world, phase, _tenant):
         rng = self.rng
         size = self.one(phase.sizes) if self.is_right(phase, 0.85) else rng.randrange(1, 4097)
         size = size if self.is_right(phase, 0.95) else self.one(WRONG_OBJECTS)
         alignment = self.one(phase.alignments) if self.is_right(phase, 0.95) else self.one(WRONG_ALIGNMENTS)
-        return size, alignment, rng.randbytes(self.one([1, 1, 2, 3, 7, 16])).hex()
+        return f'{size} {alignment} {rng.randbytes(self.one([1, 1, 2, 3, 7, 16])).hex()}'
 
     def range(self, world, tenant):
         """Returns a place and a number of bytes for a read or write, often at the edges of a live block or object."""
-        chance = self.rng.random()
+        chance = self.random()
         if chance < 0.15 and tenant.written:
             return self.one(tenant.written)
         length = self.one(LENGTHS)
-        if chance < 0.25 and world.offsets and tenant.slots:
+        if chance < 0.25 and world.offsets and tenant.slots.keys:
             # an offset in a superblock at which some tenant has written
-            place = tenant.slots.draw(self.rng) * (FRAME_BYTES << world.sizes.order) + self.one(world.offsets)
-        elif chance < 0.28 or not tenant.pages and not tenant.objects:
+            place = self.one(tenant.slots.keys) * (FRAME_BYTES << world.sizes.order) + self.one(world.offsets)
+        elif chance < 0.28 or not tenant.pages.keys and not tenant.objects.keys:
             place = self.one([0, MAX_NUMBER, MAX_NUMBER - length + 1, MAX_NUMBER - length + 2, self.one(EDGES)])
         else:
             begin, size = self.block(tenant)
-            length = min(length, size) if self.rng.random() < 0.9 else length
+            length = min(length, size) if self.random() < 0.9 else length
             place = begin + self.at(size, length)
         return min(max(place, 0), MAX_NUMBER), length
 
     def block(self, tenant):
         """Returns the first place of a block or an object, and its size in bytes."""
-        if tenant.pages and (not tenant.objects or self.rng.random() < 0.5):
-            frame = tenant.pages.draw(self.rng)
+        if tenant.pages.keys and (not tenant.objects.keys or self.random() < 0.5):
+            frame = self.one(tenant.pages.keys)
             return FRAME_BYTES * frame, FRAME_BYTES << tenant.pages.get(frame)
-        place = tenant.objects.draw(self.rng)
+        place = self.one(tenant.objects.keys)
         return place, tenant.caches.get(tenant.objects.get(place), Cache()).size
 
     def at(self, size, length):
@@ -240,3 +240,8 @@ class Maker:
             # begins at the boundary of two frames, crosses it, or ends there
             return FRAME_BYTES * rng.randrange(size // FRAME_BYTES + 1) - self.one([0, length // 2, length])
         return rng.randrange(last + 1)
+
+
+# What makes the arguments of a command of tenants.
+MADE = {'alloc': Maker.order, 'free': Maker.page, 'read': Maker.read, 'write': Maker.write, 'cache': Maker.layout,
+        'destroy': Maker.cache, 'take': Maker.cache, 'give': Maker.object}

@@ -1,7 +1,10 @@
 """Runs of the program: sends lines and keeps the replies, and runs the lines of an earlier run again."""
 import bisect
-import collections
 import contextlib
+import functools
+import itertools
+import operator
+import re
 
 from .talk import ProgramFailed
 from .words import FRAME_BYTES, MAX_BYTES, MAX_NUMBER, is_number, number_in, order_in, told_in
@@ -12,32 +15,63 @@ MAX_AT_ONCE = 256
 # If a wrong number has one of these distances from a name, it keeps the distance when the name changes. The distances are powers
 # of two, since blocks and slots have such sizes, and since a program may drop the high bits of a number.
 POWERS = [1 << power for power in range(32)]
-DISTANCES = [0, *reversed(POWERS), *(-power for power in POWERS)]
+UPWARDS = [0, *reversed(POWERS)]
+DISTANCES = [*UPWARDS, *(-power for power in POWERS)]
+# How lines begin that do not change how many rows a report has. Other superblocks may be named in the replies to them.
+WITHOUT_ROWS = 'admin grant', 'admin takeback', 'admin move'
+# How many lines, and how many replies, are kept with their parts.
+KNOWN_TEXTS = 1 << 13
 
 
 class Run:
-    """A trace that is being made: its lines so far, with their replies."""
+    """A trace that is being made: its lines so far, with their replies. If `is_known`, no line is made from the replies."""
 
-    def __init__(self, programs, sizes):
-        self.talk, self.world = programs.start(sizes), World(sizes)
+    def __init__(self, programs, sizes, is_known=False):
+        self.talk, self.world = programs.start(sizes), World(sizes, is_known)
         self.sizes, self.exchanges, self.failure, self.rest = sizes, [], None, ''
-        self.slowest = 0.0
+        self.slowest, self.known = 0.0, {}
 
     def say(self, lines):
         """Sends lines all at once, and then takes the reply to each."""
-        if self.failure or not lines:
-            return
-        self.talk.send(lines)
-        for line in lines:
-            try:
-                replies = self.talk.reply(self.world.owed(line))
-            except ProgramFailed as failed:
-                self.failure = failed.args[0]
-                replies = [part for part in self.talk.rest() if part]
-            self.exchanges.append((line, replies))
-            self.world.note(line, replies)
-            if self.failure:
-                return
+        if not self.failure and lines:
+            self.talk.send(lines)
+            self.take(lines)
+
+    def take(self, lines):
+        """Takes the replies to lines that are sent."""
+        reply, owed, note, add = self.talk.reply, self.world.owed, self.world.note, self.exchanges.append
+        try:
+            for line in lines:
+                words = line.split()
+                replies = reply(owed(line, words))
+                add((line, replies))
+                note(words, replies)
+        except ProgramFailed as failed:
+            self.fail_at(line, failed)
+
+    def fail_at(self, line, failed):
+        self.failure = failed.args[0]
+        self.exchanges.append((line, [part for part in self.talk.rest() if part]))
+        self.world.note(line.split(), self.exchanges[-1][1])
+
+    def say_again(self, before):
+        """Sends known lines as they are, all at once. `before` has them with their replies in another run. As long as the replies
+        to a tenant are the same, each has as many lines as then."""
+        lines, reply, add = [line for line, _ in before], self.talk.reply, self.exchanges.append
+        if lines:
+            self.talk.send(lines)
+        try:
+            for line, known in before:
+                replies = reply(len(known))
+                add((line, replies))
+                if replies != known and not line.startswith(WITHOUT_ROWS):
+                    break
+        except ProgramFailed as failed:
+            self.fail_at(line, failed)
+        if len(self.exchanges) < len(lines) and not self.failure:
+            for line, replies in self.exchanges:
+                self.world.note(line.split(), replies)
+            self.take(lines[len(self.exchanges):])
 
     def end(self):
         if not self.failure:
@@ -50,23 +84,39 @@ class Run:
         return self
 
     def trace(self):
-        return ''.join(f'{line}\n' for line, _ in self.exchanges)
+        return '\n'.join([*map(operator.itemgetter(0), self.exchanges), ''])
 
     def text(self):
-        return ''.join(f'{reply}\n' for _, replies in self.exchanges for reply in replies) + self.rest
+        return '\n'.join([*self.replies(), self.rest])
+
+    def replies(self):
+        """Returns an iterator over all reply lines."""
+        return itertools.chain.from_iterable(map(operator.itemgetter(1), self.exchanges))
 
     def told(self, tenant):
-        begin = f'{tenant}> '
-        return [reply for _, replies in self.exchanges for reply in replies if reply.startswith(begin)]
+        """Returns the reply lines that name the tenant. May be called only after the run."""
+        if tenant not in self.known:
+            self.known[tenant] = list(filter(operator.methodcaller('startswith', f'{tenant}> '), self.replies()))
+        return self.known[tenant]
 
     def own_list(self, tenant):
-        """Returns the tenant's commands and its resets, and those of its grants and take-backs that were not refused."""
-        return [line for line, replies in self.exchanges if is_own(tenant, line, replies)]
+        """Returns the tenant's commands and its resets, and those of its grants and take-backs that were not refused, each with
+        its replies."""
+        begin, may_name = f'{tenant} ', naming(tenant).match
+        return [exchange for exchange in self.exchanges
+                if exchange[0].startswith(begin) or may_name(exchange[0]) and is_own(tenant, *exchange)]
 
     def speakers(self):
         """Returns those tenants of the machine that are named in at least one line."""
-        numbers = collections.Counter(tenant_of(line) for line, _ in self.exchanges)
-        return [tenant for tenant in range(self.sizes.tenants) if numbers[str(tenant)]]
+        named = {tenant_of(line) for line, _ in self.exchanges}
+        return [tenant for tenant in range(self.sizes.tenants) if str(tenant) in named]
+
+
+@functools.lru_cache(64)
+def naming(tenant):
+    """Returns a pattern that matches the beginning of each line that names this tenant, or tells it apart from most other
+    lines faster than `is_own`."""
+    return re.compile(rf'\s*(admin\s+\S+\s+)?0*{tenant}(?!\S)')
 
 
 def is_own(tenant, line, replies):
@@ -84,8 +134,9 @@ def has_done(replies):
 
 def tenant_of(line):
     """Returns the word that names a line's tenant, or an empty text if there is none."""
-    words = line.split()
-    return ''.join(words[2:3] if words[:1] == ['admin'] else words[:1])
+    words = line.split(None, 3)
+    at = 2 if words[:1] == ['admin'] else 0
+    return words[at] if at < len(words) else ''
 
 
 class Places:
@@ -113,12 +164,6 @@ class Places:
         behind = self.begins[at + 1] if at + 1 < len(self.begins) else None
         return behind if behind is not None and behind - place <= MAX_BYTES else None
 
-    def now(self, place):
-        """Returns where a place is in the other run. A place around which there is nothing stays the same."""
-        begin = self.around(place)
-        now = place if begin is None else self.known[begin][1] + place - begin
-        return now if now >= 0 else place
-
 
 class Renamed:
     """Maps a tenant's frames, objects, caches and slots in one run to those in another run, which may have fewer lines and
@@ -130,15 +175,14 @@ class Renamed:
         self.places, self.sizes = Places(), {}                  # sizes of objects by cache
         self.awaited = set()                                    # names whose reply is not yet known, and their kinds
 
-    def awaits(self, old):
-        """Notes that a line is sent and not yet answered. Its reply in the first run was `old`."""
-        kind, at = name_in(old)
-        if kind and len(old) > at:
-            self.awaited |= {kind, (kind, old[at])}
+    def awaits(self, kind, old):
+        """Notes that a line is sent and not yet answered. Its reply in the first run gave the name `old`."""
+        self.awaited.add(kind)
+        self.awaited.add((kind, old))
 
-    def needs(self, words):
-        """Returns whether a line with these words has a name that an awaited reply gives."""
-        return bool(self.awaited) and any(self.is_awaited(kind, words[at]) for at, kind in names_in(words))
+    def needs(self, words, named):
+        """Returns whether a line with these words has a name that an awaited reply gives. `named` is names_in(words)."""
+        return bool(self.awaited) and any(self.is_awaited(kind, words[at]) for at, kind in named)
 
     def is_awaited(self, kind, word):
         """Returns whether an awaited reply may decide what a word becomes in the other run."""
@@ -146,12 +190,10 @@ class Renamed:
             return (kind, word) in self.awaited
         return bool(self.awaited & ({'frame', 'object', 'slot'} if kind in ('frame', 'place') else {kind}))
 
-    def note(self, words, old, new):
-        """Notes that the reply to these words was `old` in the first run, and is `new` in the other."""
-        kind, at = name_in(old)
-        if kind and new[:1] == old[:1]:
-            with contextlib.suppress(IndexError, ValueError):
-                self.rename(words, kind, number_in(old[at]), number_in(new[at]))
+    def note(self, words, kind, old, new):
+        """Notes that the reply to these words gave the name `old` in the first run, and gives `new` in the other."""
+        with contextlib.suppress(IndexError, ValueError):
+            self.rename(words, kind, number_in(old), number_in(new))
 
     def rename(self, words, kind, before, now):
         if kind == 'frame':
@@ -162,26 +204,27 @@ class Renamed:
             self.places.add(before, self.sizes.get(number_in(words[2]), 1), now)
         self.names[kind][before] = now
 
-    def line(self, words):
-        named = list(words)
-        for at, kind in names_in(words):
-            named[at] = str(self.place(int(words[at])) if kind == 'place' else self.number(kind, words[at]))
-        return ' '.join(named)
+    def line(self, words, named):
+        renamed = list(words)
+        for at, kind in named:
+            renamed[at] = str(self.place(int(words[at])) if kind == 'place' else self.number(kind, words[at]))
+        return ' '.join(renamed)
 
     def number(self, kind, word):
         """Returns what a number becomes in the other run: a name, or a number at the same distance from a name."""
         names, number = self.names[kind], int(word)
         if kind == 'frame' and number not in names:
             return self.place(number * FRAME_BYTES, FRAME_BYTES) // FRAME_BYTES
-        for distance in DISTANCES:
-            now = names.get(number - distance, -MAX_NUMBER) + distance
-            if 0 <= now <= MAX_NUMBER:
-                return word if now == number else now
+        for distance in DISTANCES if names else ():
+            now = names.get(number - distance)
+            if now is not None and 0 <= now + distance <= MAX_NUMBER:
+                return word if now + distance == number else now + distance
         return word
 
     def place(self, place, unit=1):
         """Returns what a place becomes in the other run. It keeps its distance, in units, from a block, an object or a slot."""
-        for distance in (unit * distance for distance in DISTANCES if distance >= 0):
+        for distance in UPWARDS if self.places.begins or self.names['slot'] else ():
+            distance *= unit
             now = self.known_place(place - distance) if distance <= place else None
             if now is not None:
                 return now + distance
@@ -189,9 +232,11 @@ class Renamed:
 
     def known_place(self, place):
         """Returns what a place becomes if it is in or beside a block or an object, or in a slot; or else None."""
+        begin = self.places.around(place)
+        if begin is not None:
+            now = self.places.known[begin][1] + place - begin
+            return now if now >= 0 else place
         slot, offset = divmod(place, self.before)
-        if self.places.around(place) is not None:
-            return self.places.now(place)
         if slot in self.names['slot']:
             # at the same distance from the end, if the slot is too small now
             inside = offset if offset < self.now else max(offset - self.before + self.now, 0)
@@ -214,31 +259,69 @@ def names_in(words):
     return [(at, kind) for at, kind in enumerate(NAMES.get(words[1], []), 2) if kind and at < len(words) and is_number(words[at])]
 
 
+# The lines and the replies of a load come again and again while it is shortened.
+@functools.lru_cache(KNOWN_TEXTS)
+def parts_of(line):
+    """Returns the words of a line, with one space between two, and its names."""
+    words = line.split()
+    return words, ' '.join(words), names_in(words) if len(words) > 1 else []
+
+
+@functools.lru_cache(KNOWN_TEXTS)
+def name_from(reply):
+    """Returns which kind of name a reply line gives, and the word that is the name. Both are empty texts if it gives none. The
+    kind is `fault` if the reply says that the line is faulty."""
+    told = told_in([reply])
+    kind, at = name_in(told)
+    if kind and at < len(told):
+        return kind, told[at]
+    return 'fault' if told[:1] == ['fault'] else '', ''
+
+
+def name_given(replies):
+    return name_from(replies[0]) if replies else ('', '')
+
+
+def said_again(programs, sizes, before):
+    """Runs the lines of a tenant's own list as they are, on a machine of these sizes. `before` also has their replies in another
+    run."""
+    run = Run(programs, sizes, is_known=True)
+    run.say_again(before)
+    return run.end()
+
+
 def replayed(programs, sizes, exchanges, order=None):
     """Runs the lines of these exchanges again, on a machine of these sizes. Their old replies are from a machine of order
     `order`, or of the same order if that is None. Names from the old replies are replaced by those from the new ones, also in a
     line that got no reply since the program failed. Lines are sent together until one needs a reply that is still missing."""
     before = sizes.order if order is None else order
-    run, renamed, sent = Run(programs, sizes), collections.defaultdict(lambda: Renamed(before, sizes.order)), []
+    run, renamed, sent = Run(programs, sizes, is_known=True), {}, []
 
     def answered():
         count = len(run.exchanges)
         run.say([line for line, *_ in sent])
-        for (_, words, told, names), (_, replies) in zip(sent, run.exchanges[count:]):
-            if names:
-                names.awaited.clear()
-                names.note(words, told, told_in(replies))
+        for names in renamed.values():
+            names.awaited.clear()
+        for (_, words, names, kind, old), (_, replies) in zip(sent, run.exchanges[count:]):
+            if kind and name_given(replies)[0] == kind:
+                names.note(words, kind, old, name_given(replies)[1])
         sent.clear()
 
     for line, replies in exchanges:
-        words, told = line.split(), told_in(replies)
-        is_plain = told[:1] == ['fault'] or len(words) < 3
-        names = None if is_plain else renamed[words[2] if words[0] == 'admin' else words[0]]
-        if len(sent) >= MAX_AT_ONCE or names and names.needs(words):
+        words, plain, named = parts_of(line)
+        kind, old = name_given(replies)
+        if kind == 'fault' or len(words) < 3:
+            names, kind = None, ''
+        else:
+            line, who = plain, words[2] if words[0] == 'admin' else words[0]
+            names = renamed.get(who)
+            if names is None:
+                names = renamed[who] = Renamed(before, sizes.order)
+        if len(sent) >= MAX_AT_ONCE or named and names and names.needs(words, named):
             answered()
-        if names:
-            names.awaits(told)
-        sent.append((names.line(words) if names else line, words, told, names))
+        if kind:
+            names.awaits(kind, old)
+        sent.append((names.line(words, named) if named and names else line, words, names, kind, old))
         if run.failure:
             break
     answered()

@@ -21,6 +21,9 @@ SECONDS_OF_ERRORS = 0.2
 MAX_UNASKED, MAX_WAITING = 1 << 16, 1 << 20
 # The kind of failure of a program that exceeds one of these two limits.
 BABBLES = 'babbles'
+# At least how many replies have to be missing for a pause before they are read, how long a fast program needs for a reply, and
+# how long a pause is at most, in seconds.
+MANY, SECONDS_OF_FAST, MAX_PAUSE = 16, 2e-6, 1e-3
 # How many bytes of standard error are kept: at its beginning, with the words of a sanitizer or of a panic, and at its end.
 FIRST_ERRORS, LAST_ERRORS = 1 << 14, 1 << 12
 
@@ -71,9 +74,9 @@ class Talk:
     def __init__(self, command, seconds):
         self.process = subprocess.Popen(command, stdin=subprocess.PIPE, stdout=subprocess.PIPE, stderr=subprocess.PIPE,
                                         bufsize=0, **GROUP_OF_ITS_OWN)
-        self.seconds, self.answered, self.slowest = seconds, 0, 0.0
+        self.seconds, self.sent, self.answered, self.slowest = seconds, 0, 0, 0.0
         self.unsent, self.is_input_closed = b'', False
-        self.ready, self.held, self.held_bytes = collections.deque(), '', 0
+        self.ready, self.held, self.heard = collections.deque(), '', 0
         self.first_errors, self.last_errors = b'', b''
         self.input, self.output = self.process.stdin.fileno(), self.process.stdout.fileno()
         self.open = {self.output, self.process.stderr.fileno()}
@@ -84,8 +87,8 @@ class Talk:
 
     def send(self, lines):
         """Sends lines without waiting for replies."""
-        is_waiting = bool(self.unsent)
-        self.unsent += ''.join(f'{line}\n' for line in lines).encode('latin-1')
+        is_waiting, self.sent = bool(self.unsent), self.sent + len(lines)
+        self.unsent = memoryview(bytes(self.unsent) + ('\n'.join(lines) + '\n').encode('latin-1'))
         if not is_waiting:
             self.write()
 
@@ -107,20 +110,34 @@ class Talk:
     def reply(self, owed):
         """Returns the reply to the next line, a list of `owed` lines. Raises ProgramFailed if the program does not give it."""
         if len(self.ready) < owed:
-            start = time.monotonic()
-            while len(self.ready) < owed:
-                if self.output not in self.open or not self.hear(start + self.seconds):
-                    raise self.unanswered()
-                if self.held_bytes > MAX_WAITING:
-                    raise self.babble()
-            self.slowest = max(self.slowest, time.monotonic() - start)
+            self.wait(owed)
         self.answered += 1
-        return self.taken(owed)
+        return self.taken(owed) if owed != 1 else [self.ready.popleft()]
+
+    def wait(self, owed):
+        """Waits until the next `owed` lines are printed."""
+        start = time.monotonic()
+        while len(self.ready) < owed:
+            self.pause()
+            if self.output not in self.open or not self.hear(start + self.seconds):
+                raise self.unanswered()
+            if len(self.ready) < owed and self.waiting() > MAX_WAITING:
+                raise self.babble()
+        self.slowest = max(self.slowest, time.monotonic() - start)
+
+    def pause(self):
+        """If many replies are missing, waits for about as long as a fast program needs for them. So many replies are read at
+        once, since most programs write each alone."""
+        missing = self.sent - self.answered
+        if missing >= MANY:
+            time.sleep(min(missing * SECONDS_OF_FAST, MAX_PAUSE))
 
     def taken(self, count):
-        lines = [self.ready.popleft() for _ in range(count)]
-        self.held_bytes -= sum(map(len, lines)) + count
-        return lines
+        return [self.ready.popleft() for _ in range(count)]
+
+    def waiting(self):
+        """Returns how many printed bytes are not yet taken."""
+        return sum(map(len, self.ready)) + len(self.ready) + len(self.held)
 
     def rest(self):
         """Returns what was printed and is not yet taken, as lines. The last one may be incomplete."""
@@ -133,7 +150,7 @@ class Talk:
             raise self.failed('deaf', f'it answers without reading: line {self.answered} does not fit into the pipe any more')
         self.process.stdin.close()
         is_over = self.exits(time.monotonic() + self.seconds)
-        if self.held_bytes > MAX_UNASKED:
+        if self.waiting() > MAX_UNASKED:
             raise self.babble()
         if not is_over:
             raise self.failed('stays', f'it did not exit within {in_seconds(self.seconds)} of the end of its input')
@@ -164,7 +181,7 @@ class Talk:
         return is_heard
 
     def hold(self, piece):
-        self.held_bytes += len(piece)
+        self.heard += len(piece)
         *lines, self.held = (self.held + piece.decode('latin-1')).split('\n')
         self.ready.extend(lines)
 
@@ -175,9 +192,10 @@ class Talk:
 
     def exits(self, deadline):
         """Waits for the program to exit. Returns false at the deadline, or as soon as the program has printed too much."""
-        while self.open and self.held_bytes <= MAX_UNASKED and self.hear(deadline):
+        most = self.heard + MAX_UNASKED - self.waiting()
+        while self.open and self.heard <= most and self.hear(deadline):
             pass
-        if self.held_bytes > MAX_UNASKED:
+        if self.heard > most:
             return False
         delay = 0.0005
         while not os.waitid(os.P_PID, self.process.pid, os.WEXITED | os.WNOHANG | os.WNOWAIT):
@@ -195,7 +213,7 @@ class Talk:
             self.finish()
             how = ending(self.process.returncode)
             return self.failed(how, f'it ended {how} before it answered line {line}')
-        if self.held_bytes > MAX_UNASKED:
+        if self.waiting() > MAX_UNASKED:
             return self.babble()
         within = f'within {in_seconds(self.seconds)}'
         if self.is_input_closed or not is_silent:

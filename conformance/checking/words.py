@@ -38,14 +38,14 @@ def escaped(letter):
 
 
 def is_number(word):
-    return word.isascii() and word.isdigit() and len(word) <= 10
+    return len(word) <= 10 and word.isdigit() and word.isascii()
 
 
 def number_in(word):
     """Returns the number that a word spells. Raises ValueError if it spells none, since a program may answer anything."""
-    if not is_number(word):
-        raise ValueError
-    return int(word)
+    if len(word) <= 10 and word.isdigit() and word.isascii():
+        return int(word)
+    raise ValueError
 
 
 def order_in(word):
@@ -57,7 +57,7 @@ def order_in(word):
 def told_in(replies):
     """Returns the words of the first reply line after `T> ` or `admin> `. Returns an empty list if there is no reply, or if it
     begins with `!`."""
-    return replies[0].partition('> ')[2].split() if replies and not replies[0].startswith('!') else []
+    return replies[0].partition('> ')[2].split() if replies and replies[0][:1] != '!' else []
 
 
 def name_of_signal(number):

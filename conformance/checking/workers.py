@@ -1,5 +1,6 @@
 """Worker processes, each of which does one task at a time. The processes that they start end with them, and they end with this
 process."""
+import gc
 import multiprocessing
 import multiprocessing.connection
 import os
@@ -10,10 +11,18 @@ from . import children
 
 # How many tasks for each worker may be begun while the result of the first of them is still missing.
 AHEAD = 16
+# How many more objects are alive than at the last search for cycles of objects before the next search.
+ALLOCATED = 100_000
 
 
 class Broken(Exception):
     """Raised if a worker ended, or if something failed in it that should not fail."""
+
+
+def collect_rarely():
+    """Makes Python's search for cycles of objects rare. A run keeps many lines and makes no such cycles."""
+    gc.freeze()
+    gc.set_threshold(ALLOCATED)
 
 
 class Workers:
@@ -49,6 +58,7 @@ class Workers:
             if signal.getsignal(number) != signal.SIG_IGN:
                 signal.signal(number, lambda *_: None)
         signal.signal(signal.SIGTERM, end)
+        collect_rarely()
         children.adopt()
         children.end_with_parent()
         try:

@@ -6,10 +6,12 @@ from .words import FRAME_BYTES, FRAME_SHIFT, is_number, number_in, order_in, tol
 
 # How many of the last frees, gives and writes are kept, so that later lines can name them again.
 LAST = 32
+# A line with more bytes is faulty, even if it is a comment.
+MAX_LINE = 255
 
 
 class Bag:
-    """A map from numbers to what is known of each. It draws a random one of its numbers in constant time."""
+    """A map from numbers to what is known of each. Its numbers are also in a list, from which one can be drawn in constant time."""
 
     def __init__(self):
         self.known, self.keys, self.at = {}, [], {}
@@ -36,9 +38,6 @@ class Bag:
             if last != key:
                 self.keys[at] = last
                 self.at[last] = at
-
-    def draw(self, rng):
-        return self.keys[int(rng.random() * len(self.keys))]
 
 
 class Cache(NamedTuple):
@@ -81,77 +80,102 @@ class Tenant:
 
 
 class World:
-    def __init__(self, sizes):
+    """What the replies of a run said. A run of known lines needs only the caches, for the number of rows in a report: then
+    `is_known` is true, and the rest is not noted."""
+
+    def __init__(self, sizes, is_known=False):
         self.sizes = sizes
         self.tenants = [Tenant() for _ in range(sizes.tenants)]
         self.refused = collections.Counter()
         self.offsets = collections.deque(maxlen=LAST)           # offsets in a superblock at which some tenant wrote
         self.most = collections.Counter()                       # by noun, such as `slots`: the most that one tenant had at a time
+        self.of_admin, self.of_tenant = OF_KNOWN if is_known else OF_MADE
 
-    def owed(self, line):
-        """Returns how many lines the reply to a line has."""
-        words = line.rstrip('\r').split() if len(line) <= 255 else ['long']
+    def owed(self, line, words):
+        """Returns how many lines the reply to a line with these words has."""
+        if len(line) > MAX_LINE:
+            return 1
         if not words or words[0][0] == '#':
             return 0
-        if words == ['admin', 'pool']:
+        if len(words) != 2:
+            return 1
+        if words[1] == 'pool' and words[0] == 'admin':
             return 1 + self.sizes.superblocks
-        if len(words) == 2 and words[1] == 'report' and is_number(words[0]) and int(words[0]) < self.sizes.tenants:
+        if words[1] == 'report' and is_number(words[0]) and int(words[0]) < self.sizes.tenants:
             return 2 + self.sizes.order + len(self.tenants[int(words[0])].caches)
         return 1
 
-    def note(self, line, replies):
-        """Learns from the reply to a line. A program may answer anything, so replies of another form are skipped."""
-        words, told = line.split(), told_in(replies)
-        if 'refused' in told[:1] or replies and replies[0].startswith('!> refused'):
-            self.refused[replies[0].split()[-1]] += 1
-        elif len(words) > 1 and told and told[0] != 'fault':
-            try:
-                if words[0] == 'admin':
-                    self.note_admin(words, told)
-                else:
-                    self.note_command(self.tenants[int(words[0])], words, told)
-            except (IndexError, ValueError):
-                pass
+    def note(self, words, replies):
+        """Learns from the reply to these words. A program may answer anything, so replies of another form are skipped."""
+        reply = replies[0] if replies else ''
+        if 'refused' in reply and (told_in(replies)[:1] == ['refused'] or reply.startswith('!> refused')):
+            self.refused[reply.split()[-1]] += 1
+        elif len(words) > 1:
+            noted = (self.of_admin if words[0] == 'admin' else self.of_tenant).get(words[1])
+            # told_in, without a call
+            told = reply.partition('> ')[2].split() if noted and reply[:1] != '!' else None
+            if told and told[0] != 'fault':
+                try:
+                    noted(self, words, told)
+                except (IndexError, ValueError):
+                    pass
 
-    def note_admin(self, words, told):
-        if words[1] == 'grant':
-            tenant = self.tenants[number_in(told[1])]
-            tenant.slots.add(number_in(told[3]), number_in(told[5]))
-            self.at_most('slots', len(tenant.slots))
-        elif words[1] == 'reset':
-            self.tenants[number_in(told[1])] = Tenant()
-        elif words[1] == 'takeback' and told[0] == 'taken':
+    def granted(self, words, told):
+        tenant = self.tenants[number_in(told[1])]
+        tenant.slots.add(number_in(told[3]), number_in(told[5]))
+        self.at_most('slots', len(tenant.slots.keys))
+
+    def was_reset(self, words, told):
+        self.tenants[number_in(told[1])] = Tenant()
+
+    def taken_back(self, words, told):
+        if told[0] == 'taken':
             self.tenants[number_in(words[2])].slots.drop(number_in(words[3]))
 
-    def note_command(self, tenant, words, told):
-        command, numbers = words[1], words[2:]
-        if command == 'alloc':
-            order = order_in(numbers[0])
-            tenant.pages.add(number_in(told[1]), order)
-            tenant.frames += 1 << order
-            self.at_most('blocks', len(tenant.pages))
-            self.at_most('frames', tenant.frames)
-        elif command == 'free':
-            tenant.pages.drop(number_in(numbers[0]))
-            tenant.freed.append(int(numbers[0]))
-            tenant.frames -= 1 << order_in(told[1])
-        elif command == 'write':
-            place = number_in(numbers[0])
-            tenant.written.append((place, len(numbers[1]) // 2))
-            self.offsets.append(place % (FRAME_BYTES << self.sizes.order))
-        elif command == 'cache':
-            objects = int(told[7]) if is_number(''.join(told[7:8])) else 1
-            tenant.last_cache = number_in(told[1])
-            tenant.caches.add(tenant.last_cache, Cache(number_in(numbers[0]), objects))
-        elif command == 'destroy':
-            tenant.caches.drop(number_in(numbers[0]))
-        elif command == 'take':
-            tenant.objects.add(number_in(told[1]), number_in(numbers[0]))
-            self.at_most('objects', len(tenant.objects))
-        elif command == 'give':
-            tenant.objects.drop(number_in(numbers[1]))
-            tenant.given.append((number_in(numbers[0]), int(numbers[1])))
+    def allocated(self, words, told):
+        tenant, order = self.tenants[int(words[0])], order_in(words[2])
+        tenant.pages.add(number_in(told[1]), order)
+        tenant.frames += 1 << order
+        self.at_most('blocks', len(tenant.pages.keys))
+        self.at_most('frames', tenant.frames)
+
+    def freed(self, words, told):
+        tenant, frame = self.tenants[int(words[0])], number_in(words[2])
+        tenant.pages.drop(frame)
+        tenant.freed.append(frame)
+        tenant.frames -= 1 << order_in(told[1])
+
+    def written(self, words, told):
+        tenant, place = self.tenants[int(words[0])], number_in(words[2])
+        tenant.written.append((place, len(words[3]) // 2))
+        self.offsets.append(place % (FRAME_BYTES << self.sizes.order))
+
+    def made_cache(self, words, told):
+        tenant, objects = self.tenants[int(words[0])], int(told[7]) if is_number(''.join(told[7:8])) else 1
+        tenant.last_cache = number_in(told[1])
+        tenant.caches.add(tenant.last_cache, Cache(number_in(words[2]), objects))
+
+    def destroyed(self, words, told):
+        self.tenants[int(words[0])].caches.drop(number_in(words[2]))
+
+    def took(self, words, told):
+        tenant = self.tenants[int(words[0])]
+        tenant.objects.add(number_in(told[1]), number_in(words[2]))
+        self.at_most('objects', len(tenant.objects.keys))
+
+    def gave(self, words, told):
+        tenant, place = self.tenants[int(words[0])], number_in(words[3])
+        tenant.objects.drop(place)
+        tenant.given.append((number_in(words[2]), place))
 
     def at_most(self, noun, count):
         if count > self.most[noun]:
             self.most[noun] = count
+
+
+# What is noted after the commands of the administrator and after those of a tenant: in a run whose lines are made from its
+# replies, and in a run whose lines are known.
+OF_MADE = ({'grant': World.granted, 'reset': World.was_reset, 'takeback': World.taken_back},
+           {'alloc': World.allocated, 'free': World.freed, 'write': World.written, 'cache': World.made_cache,
+            'destroy': World.destroyed, 'take': World.took, 'give': World.gave})
+OF_KNOWN = {'reset': World.was_reset}, {'cache': World.made_cache, 'destroy': World.destroyed}
