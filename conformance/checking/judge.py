@@ -16,17 +16,23 @@ ALLOWED, NOT_ALLOWED = 0, 4
 PROMISE = re.compile(r'line (\d+), .*: (Form|Refusals|Room|Busy|Blocks|Objects|Layout|Gives|Owners|Bytes|Report|Still): ', re.S)
 
 
+# How often the same lines are run again before Alone is reported.
+TIMES_AGAIN = 3
+
+
 class Unusable(Exception):
     """partcheck or partmem cannot be used."""
 
 
 class Breach(NamedTuple):
     """A broken promise of docs/promises.md, or Exact, a difference from partmem. `line` is the number of the line that shows it,
-    if that is known. For Alone, `tenant` is the tenant whose replies differ."""
+    if that is known. For Alone, `tenant` is the tenant whose replies differ. If they differ when the same lines are run again,
+    `is_unsteady` is true."""
     kind: str
     words: str
     tenant: Optional[int] = None
     line: Optional[int] = None
+    is_unsteady: bool = False
 
 
 class Case(NamedTuple):
@@ -110,27 +116,51 @@ class Judge:
         return first and Breach('Exact', "reply line {}: partmem says '{}', the program '{}'".format(*first))
 
     def alone(self, run, tenant):
-        """Runs the tenant's own list alone. Returns a case if the tenant gets other replies then, or if the program fails. If the
-        run has no other lines, the program is not deterministic."""
+        """Runs the tenant's own list alone. Returns a case if that breaks a promise, if the program fails, or if the tenant gets
+        other replies than in the run."""
         own = run.own_list(tenant)
         other = said_again(self.programs, run.sizes, own)
-        where = 'alone' if len(own) < len(run.exchanges) else 'again, which is all of these lines'
-        return Case(other, other.failure) if other.failure else self.compared(run, other, tenant, where)
+        case = self.judged(other)
+        if not case and len(own) == len(run.exchanges):
+            return self.unsteady(run, other, tenant)
+        return case or self.compared(run, other, tenant, 'when its own list is run alone')
 
-    def compared(self, run, other, tenant, where):
+    def steady(self, case):
+        """If a case is about Alone, runs its lines again. If the tenant then gets other replies, returns a case that says so."""
+        run, finding = case
+        if isinstance(finding, Failure) or finding.tenant is None or finding.is_unsteady:
+            return case
+        for _ in range(TIMES_AGAIN):
+            other = said_again(self.programs, run.sizes, run.exchanges)
+            found = self.unsteady(run, other, finding.tenant)
+            if found:
+                return found
+        return case
+
+    def unsteady(self, run, other, tenant):
+        """Compares two runs of the same lines. If the tenant's replies differ, returns a case with the lines up to the first
+        difference. Fewer lines would not show it each time."""
+        found = self.compared(run, other, tenant, 'when run again')
+        if found is None:
+            return None
+        return Case(run.up_to(found.finding.line), found.finding._replace(is_unsteady=True))
+
+    def compared(self, run, other, tenant, when):
         here, there = run.told(tenant), other.told(tenant)
         if here == there:
             return None
         for at, (one, two) in enumerate(zip(here + ['nothing'], there + ['nothing']), 1):
             if one != two:
-                words = f"its reply line {at} is '{visible(one)}' here, and '{visible(two)}' when its own list is run {where}"
+                words = f"its reply line {at} is '{visible(one)}' here, and '{visible(two)}' {when}"
                 return Case(run, Breach('Alone', words, tenant, line_of_reply(run, tenant, at)))
         return None
 
     def shows(self, sizes, exchanges, finding, order=None):
         """Runs these lines, which come from a run on a machine of this order. Returns the case if it shows a finding of the same
-        kind, or None."""
+        kind, or None. Instead of Alone, the finding may be any other promise."""
         run = replayed(self.programs, sizes, exchanges, order)
-        is_alone = isinstance(finding, Breach) and finding.tenant is not None and not run.failure
-        case = self.alone(run, finding.tenant) if is_alone else self.judged(run)
-        return case if case and case.finding.kind == finding.kind else None
+        is_alone, case = isinstance(finding, Breach) and finding.tenant is not None, self.judged(run)
+        if is_alone and not case:
+            case = self.alone(run, finding.tenant)
+        is_plainer = is_alone and case and isinstance(case.finding, Breach)
+        return case if case and (is_plainer or case.finding.kind == finding.kind) else None

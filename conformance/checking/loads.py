@@ -58,13 +58,13 @@ def load(options, number):
     tenant = planner.rng.choice(run.speakers() or [0])
     case = judge.alone(run, tenant)
     if case:
-        return Load(number, reached, case)
+        return Load(number, reached, judge.steady(case))
     noisy = between_noise(judge.programs, run, tenant, maker)
     reached = reached.and_also(reached_by(noisy))
     case = judge.judged(noisy)
     if not case:
-        case = judge.compared(noisy, run, tenant, 'between other noise')
-        case = case and (judge.alone(noisy, tenant) or case)
+        case = judge.compared(noisy, run, tenant, 'when its own list is run between other noise')
+        case = case and judge.steady(judge.alone(noisy, tenant) or case)
     return Load(number, reached, case)
 
 

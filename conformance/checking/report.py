@@ -57,6 +57,8 @@ def advice(options, case):
     is_refused = isinstance(case.finding, Failure) and case.finding.kind.startswith('with status')
     if of_caches and (is_refused or case.finding.kind == 'Form'):
         yield 'If your allocator has no caches, test it with --pages.'
+    if isinstance(case.finding, Breach) and case.finding.is_unsteady:
+        yield 'The program answers the same lines differently each time. They are all lines up to the first difference.'
     if case.finding.kind == 'Form' and replies and replies[-1].endswith('\r'):
         yield 'The reply ends in CR LF: a line of a reply ends in LF alone.'
 

@@ -1,6 +1,7 @@
 """Runs of the program: sends lines and keeps the replies, and runs the lines of an earlier run again."""
 import bisect
 import contextlib
+import copy
 import functools
 import itertools
 import operator
@@ -88,6 +89,12 @@ class Run:
 
     def text(self):
         return '\n'.join([*self.replies(), self.rest])
+
+    def up_to(self, count):
+        """Returns this run with its first `count` lines alone."""
+        cut = copy.copy(self)
+        cut.exchanges, cut.rest, cut.known = self.exchanges[:count], '', {}
+        return cut
 
     def replies(self):
         """Returns an iterator over all reply lines."""

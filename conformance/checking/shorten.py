@@ -259,6 +259,8 @@ def shortened(options, case, note):
     """Returns the shortest case that was found. Also returns the seconds after which shortening was stopped, or None if it was
     not."""
     is_failure, seconds, patience = isinstance(case.finding, Failure), options.shorten, SECONDS
+    if not is_failure and case.finding.is_unsteady:
+        return case, None
     if not is_at_once(case.finding):
         patience = min(SECONDS, max(MIN_SECONDS, TIMES_SLOWEST * case.run.slowest))
     if seconds is None:
@@ -271,4 +273,4 @@ def shortened(options, case, note):
         again = Judge(options, Programs(options.command, SECONDS_AGAIN))
         short = again.shows(short.run.sizes, short.run.exchanges, short.finding) or case
         is_shortest = is_shortest and short is not case
-    return short, None if is_shortest else seconds
+    return judge.steady(short), None if is_shortest else seconds

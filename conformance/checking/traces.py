@@ -87,4 +87,4 @@ def trace(options, name):
     case, speakers = judge.judged(run), iter(run.speakers())
     while not case and (tenant := next(speakers, None)) is not None:
         case = judge.alone(run, tenant)
-    return Load(name, reached_by(run), case)
+    return Load(name, reached_by(run), case and judge.steady(case))

@@ -11,7 +11,7 @@ MAX_LINE = 255
 
 
 class Bag:
-    """A map from numbers to what is known of each. Its numbers are also in a list, from which one can be drawn in constant time."""
+    """A map from numbers to what is known of each. Its numbers are also in a list, so one can be drawn in constant time."""
 
     def __init__(self):
         self.known, self.keys, self.at = {}, [], {}
