@@ -33,7 +33,8 @@ class Used:
         self.slots = self.largest = 0                   # the most slots, and the frames of the largest block
         self.frames = self.in_slabs = self.asked = 0    # frames taken now, those in slabs, requested bytes of live objects
         self.most = 0, 0, 0                             # these three when `frames` was greatest, and at a tie `asked` too
-        self.objects = collections.Counter()            # the live objects of each slab, by its first frame
+        self.taken = 0                                  # how many objects were taken
+        self.objects = {}                               # the live objects of each slab, by its first frame
 
     def note(self, slots, frames):
         """Notes what the tenant has after a request was met. The largest block that met it has `frames` frames. Refused requests
@@ -52,13 +53,19 @@ class Used:
     def drop_block(self, frames):
         self.frames -= frames
 
-    def add_object(self, slab, frames, asked):
-        """Adds an object with `asked` requested bytes, in the slab of `frames` frames that begins at frame `slab`."""
-        self.objects[slab] += 1
+    def add_object(self, slab, frames, asked, slots):
+        """Adds an object with `asked` requested bytes, in the slab of `frames` frames that begins at frame `slab`. Notes it."""
+        objects = self.objects
+        self.taken += 1
         self.asked += asked
-        if self.objects[slab] == 1:
+        if slab in objects:
+            objects[slab] += 1
+        else:
+            objects[slab] = 1
             self.in_slabs += frames
-            self.add_block(frames)
+            self.frames += frames
+        if self.frames >= self.most[0] or slots > self.slots or frames > self.largest:
+            self.note(slots, frames)
 
     def drop_object(self, slab, frames, asked):
         self.objects[slab] -= 1
@@ -115,10 +122,11 @@ def tell_needs(blocks, order):
 
 def tell(tenant, larger):
     """Prints the summary of a tenant. `larger` names the options of a larger machine, or is empty if there is no larger one."""
-    refused = sum(count for what, count in tenant.told.items() if 'refused' in what)
+    told = tenant.counts()
+    refused = sum(count for what, count in told.items() if 'refused' in what)
     tell_used(tenant.used, refused, tenant.machine.order)
     heading('requested')
-    for what, count in sorted((+tenant.told).items()):
+    for what, count in sorted(told.items()):
         row(count, what)
     tell_sizes(tenant.sizes)
     tenant.tell_more()

@@ -1,14 +1,19 @@
 """What from-kmem and from-malloc share: tenants that request page blocks and objects from a running partmem, and write the lines
-that they send as a trace. Where a block or an object lies, and whether memory is left, they only learn from partmem's replies.
+that they send as a trace. Where a block or an object lies, and whether memory is left, they only learn from partmem's replies. A
+line whose reply is not needed yet waits, and is sent together with the lines that follow it.
 """
 import argparse
 import collections
+import contextlib
+import gc
 import gzip
 import heapq
+import itertools
 import os
 import stat
 import subprocess
 import sys
+import time
 import typing
 import zlib
 
@@ -19,6 +24,9 @@ from summary import FRAME, MAX_SUPERBLOCKS, visible
 GREATEST_OBJECT = 4096
 CACHES = 32
 ORDERS, MAX_TENANTS = range(3, 9), 64
+PIECE = 1 << 16            # about how many characters of a log are read at a time
+LINES_BETWEEN = 10_000     # how many lines are read before it is seen whether progress has to be shown
+MAX_WAITING = 100          # lines that wait: few enough that their replies fit into a pipe, which holds at least 4 KiB
 MAX_CHARACTERS = 1 << 17   # of a line; malloc_log.c leaves up to half as many zeroes after the last line
 MAX_BYTES, BYTES_BEGUN = 255, 100  # the most bytes of a line of a trace; the bytes of a too long name that come before its cut
 SECOND, MAX_TIMES = 10**9, 100     # a second in nanoseconds; about how many remarks of the time a trace has at most
@@ -29,7 +37,29 @@ def own_name():
     return os.path.basename(sys.argv[0])
 
 
+class Progress:
+    """A line on standard error that says how far the program is, if standard error is a terminal. It is written at most once in
+    each `interval`, in seconds."""
+
+    def __init__(self, interval):
+        self.interval, self.next, self.is_shown, self.is_terminal = interval, time.monotonic() + interval, False, sys.stderr.isatty()
+
+    def tell(self, text):
+        if self.is_terminal and time.monotonic() >= self.next:
+            self.next, self.is_shown = time.monotonic() + self.interval, True
+            print(f'\r{own_name()}: {visible(text)}\033[K', end='', file=sys.stderr, flush=True)
+
+    def erase(self):
+        if self.is_shown:
+            self.is_shown = False
+            print('\r\033[K', end='', file=sys.stderr, flush=True)
+
+
+PROGRESS = Progress(1)
+
+
 def fail(text, status=1):
+    PROGRESS.erase()
     print(f'{own_name()}: {visible(text)}', file=sys.stderr)
     sys.exit(status)
 
@@ -95,10 +125,10 @@ def reason(problem):
     return getattr(problem, 'strerror', None) or str(problem)
 
 
-def lines_in(file, path):
-    """Yields (number, line) for each line of a file. Fails at a line of more than MAX_CHARACTERS characters, before all of it is
-    read into memory."""
-    for at, line in enumerate(iter(lambda: file.readline(MAX_CHARACTERS + 1), ''), 1):
+def lines_in(file, path, first=1):
+    """Yields (number, line) for each line of a file; the first line has the number `first`. Fails at a line of more than
+    MAX_CHARACTERS characters, before all of it is read into memory."""
+    for at, line in enumerate(iter(lambda: file.readline(MAX_CHARACTERS + 1), ''), first):
         if len(line) > MAX_CHARACTERS:
             fail(f'{path} line {at}: it has more than {MAX_CHARACTERS} characters')
         yield at, line
@@ -107,13 +137,36 @@ def lines_in(file, path):
 def lines_of(path):
     """Yields (number, line) for each line of a log. Bytes that are not UTF-8 are replaced: only names may have any, and names
     need not be exact."""
+    with opened(path) as file:
+        for at, line in lines_in(file, path):
+            if at % LINES_BETWEEN == 0:
+                PROGRESS.tell(f'{at} lines of {path} read')
+            yield at, line
+
+
+def pieces_of(path):
+    """Yields a log in pieces of about PIECE characters, as `lines_of` yields it in lines: (number of its first line, text). A
+    piece ends with a line, or with the log, or with the beginning of a line that `lines_in` refuses."""
+    at = 1
+    with opened(path) as file:
+        while text := file.read(PIECE):
+            if not text.endswith('\n'):
+                text += file.readline(MAX_CHARACTERS + 1)
+            yield at, text
+            PROGRESS.tell(f'{at} lines of {path} read')
+            at += text.count('\n')
+
+
+@contextlib.contextmanager
+def opened(path):
+    """Opens a log, and closes it in the end. Fails if it cannot be opened or read."""
     try:
         mode = os.stat(path).st_mode
         if not stat.S_ISREG(mode):
             more = ', or --largest N takes the largest N in it' if stat.S_ISDIR(mode) else ''
             fail(f'cannot read {path}: it is read twice, so it has to be a regular file{more}')
         with (gzip.open if path.endswith('.gz') else open)(path, 'rt', encoding='utf-8', errors='replace') as file:
-            yield from lines_in(file, path)
+            yield file
     except (OSError, EOFError, zlib.error) as problem:
         fail(f'cannot read {path}: {reason(problem)}')
 
@@ -169,33 +222,29 @@ class Clock:
     """Writes into the trace how much time has passed since the first event, once in each interval that has an event."""
 
     def __init__(self, longest):
-        self.interval, self.start, self.next = interval_of(longest), None, float('-inf')
+        self.interval, self.start, self.next, self.passed = interval_of(longest), None, float('-inf'), 0
+        self.soonest = float('-inf')    # seconds; before this time `tell` writes nothing
         write(f'# times every {seconds(self.interval)} seconds')
 
-    def tell(self, time):
-        time = round(time * SECOND)
-        if time >= self.next:
-            self.start = time if self.start is None else self.start
-            passed = (time - self.start) // self.interval * self.interval
-            self.next = self.start + passed + self.interval
-            write(f'# time {seconds(passed)}')
+    def tell(self, now):
+        now = round(now * SECOND)
+        if now >= self.next:
+            self.start = now if self.start is None else self.start
+            self.passed = (now - self.start) // self.interval * self.interval
+            self.next = self.start + self.passed + self.interval
+            self.soonest = (self.next - 1) / SECOND * (1 - 2**-50)
+            write(f'# time {seconds(self.passed)}')
 
 
-class Survey:
-    """What a first reading of a log finds: how often it requests each size (as `size_of` returns it), the time of its first
-    event, and the latest time of an event."""
-
-    def __init__(self, events, size_of):
-        self.counts, first, most = collections.Counter(), None, 0
-        for event in events:
-            time, size = event[0], size_of(event)
-            if first is None:
-                first = most = time
-            if time > most:
-                most = time
-            if size:
-                self.counts[size] += 1
-        self.first, self.most = first, most
+class Survey(typing.NamedTuple):
+    """What a first reading of a log finds: how often it requests each size of an object, the time of its first event, and the
+    latest time of an event. `events` are its events. `sizes` has the requests for the summary, by summary.bits, that were counted
+    already."""
+    counts: collections.Counter
+    first: float
+    most: float
+    events: typing.Iterable
+    sizes: collections.Counter = collections.Counter()
 
 
 def longest(surveys, together):
@@ -223,9 +272,12 @@ class Machine:
     def __init__(self, given):
         sizes = f'--order {given.order} --superblocks {given.superblocks} --tenants {len(given.logs)}'
         self.order, self.superblocks, self.tenants = given.order, given.superblocks, []
+        # The lines that wait. None of them can be refused. For each, who notes the reply: the tenant, and the first arguments of
+        # its `keep_object`, or the argument of its `drop`. How many lines take an object, and how many give something back.
+        self.lines, self.notes, self.takes, self.gives = [], [], 0, 0
         try:
             command, pipe = [given.partmem, *sizes.split()], subprocess.PIPE
-            self.program = subprocess.Popen(command, stdin=pipe, stdout=pipe, text=True)
+            self.program = subprocess.Popen(command, stdin=pipe, stdout=pipe, bufsize=0)
         except OSError as problem:
             fail(f'cannot run {given.partmem}: {reason(problem)}')
         write(f'# partmem {sizes}')
@@ -239,17 +291,43 @@ class Machine:
     def send(self, line):
         """Sends a line. Returns the words of the reply after its actor, or None if the line was refused for want of frames or of
         superblocks, or because the slot is still in use. Any other refusal is a failure."""
-        try:
-            self.program.stdin.write(line + '\n')
-            self.program.stdin.flush()
-            words = self.program.stdout.readline().split()[1:]
-        except BrokenPipeError:
-            words = []
-        if not words:
-            fail(f'partmem has ended with status {self.program.wait()}, and did not answer "{line}"')
+        words = self.settle(line)[-1].split()[1:]
         if words[0] != 'refused':
             return words
         return None if words[1] in ('1', '13', '15') else fail(f'partmem answered "{line}" by "{" ".join(words)}"')
+
+    def settle(self, *more):
+        """Sends the lines that wait and `more`, and lets the tenants note the replies to those that waited, in order. Returns all
+        replies."""
+        lines, notes = self.lines, self.notes
+        self.lines, self.notes, self.takes, self.gives = [], [], 0, 0
+        if lines:
+            write('\n'.join(lines))
+        lines += more
+        replies = self.replies(lines)
+        try:
+            for (tenant, name, cache, asked), reply in zip(notes, replies):
+                if cache:
+                    tenant.keep_object(name, cache, asked, reply)
+                else:
+                    tenant.drop(name)
+        except ValueError:
+            fail(f'partmem answered "{cache.request}" by "{reply}"')
+        return replies
+
+    def replies(self, lines):
+        """Sends lines, and returns the reply to each. They are so few that the pipe holds all replies."""
+        found = b''
+        try:
+            self.program.stdin.write(('\n'.join(lines) + '\n').encode())
+            while found.count(b'\n') < len(lines) and (read := self.program.stdout.read(PIECE)):
+                found += read
+        except BrokenPipeError:
+            pass
+        replies = found.decode().splitlines()
+        if len(replies) < len(lines):
+            fail(f'partmem has ended with status {self.program.wait()}, and did not answer "{lines[len(replies)]}"')
+        return replies
 
     def grant(self, tenant):
         """Grants the tenant a superblock, and returns whether it got one. If no superblock is left, first takes an unused slot
@@ -263,6 +341,8 @@ class Machine:
         return bool(words)
 
     def end(self):
+        if self.lines:
+            self.settle()
         for tenant in self.tenants:
             write(f'{tenant.number} report')
         flush()
@@ -271,34 +351,40 @@ class Machine:
             fail(f'partmem ended with status {self.program.returncode}')
 
 
-class Part(typing.NamedTuple):
-    """A page block or an object that partmem gave for an allocation in a log: the line that gives it back, the line that
-    requested it, the first frame of the block or of the object's slab, and the requested bytes of an object, or None for a
-    block."""
-    back: str
-    asked: str
-    frame: int
-    size: typing.Optional[int]
+class Kind:
+    """The page blocks of an order, or the objects of a cache: the line that requests one, the order of a block or of a slab, and
+    how many are in it; how many are live, now and at most. `give` is the line that gives an object back, up to its place."""
+    __slots__ = 'request', 'give', 'order', 'things', 'live', 'most'
+
+    def __init__(self, request, give, order, things):
+        self.request, self.give, self.order, self.things, self.live, self.most = request, give, order, things, 0, 0
 
 
 class Tenant:
     """A tenant that makes the requests of one log. `counts` says how often it requests each size up to GREATEST_OBJECT."""
 
-    def __init__(self, machine, counts):
+    def __init__(self, machine, survey):
         self.machine, self.number = machine, len(machine.tenants)
         machine.tenants.append(self)
         self.slots = {}     # how many blocks and objects lie in each slot that is held
-        self.things = {}    # the parts of each live allocation of the log, by its name: a pointer or a block of pages
+        # What each live allocation of the log has, by its name: a pointer or a block of pages. An object is one part. Page blocks
+        # are a list of parts. None if the reply is not there yet. A part is the line that gives it back, its kind, the first frame
+        # of the block or of the object's slab, and the requested bytes of an object, or None for a block.
+        self.things = {}
         self.told, self.used = collections.Counter(), summary.Used()
-        self.sizes = collections.Counter()      # how often each size was requested, by summary.bits
-        self.live, self.most = collections.Counter(), collections.Counter()     # by line: its live parts, now and at most
-        self.blocks = {}    # by line: the order of its page blocks, and 1; or the order of its slabs, and the objects of a slab
-        stands_for = merged(counts, CACHES)
-        sizes = sorted(set(stands_for.values()))
-        self.cache_of = {size: sizes.index(stands_for[size]) for size in counts}
-        for cache, size in enumerate(sizes):
+        self.sizes = survey.sizes.copy()        # how often each size was requested, by summary.bits
+        self.kinds = {}     # by the line that requests a part
+        stands_for = merged(survey.counts, CACHES)
+        used = sorted(set(stands_for.values()))
+        for cache, size in enumerate(used):
             words = machine.ask(f'{self.number} cache {size} {min(max(size & -size, 8), 256)} {0xa0 + cache:x}')
-            self.blocks[f'{self.number} take {cache}'] = int(words[5]), int(words[7])
+            self.kind(f'{self.number} take {cache}', f'{self.number} give {cache} ', int(words[5]), int(words[7]))
+        self.cache_of = {size: self.kinds[f'{self.number} take {used.index(stands_for[size])}'] for size in stands_for}
+        self.before_place = len(f'{self.number}> object ')
+
+    def kind(self, request, give, order, things):
+        """Returns the kind of what this line requests. Makes it if the line is new."""
+        return self.kinds.setdefault(request, Kind(request, give, order, things))
 
     def request(self, line):
         """Sends a request. If it is refused and the tenant can be granted a superblock, sends it again. Returns the frame or the
@@ -310,44 +396,53 @@ class Tenant:
         write(line)
         return words and int(words[1])
 
-    def keep(self, parts, part):
-        self.slots[part.frame >> self.machine.order] += 1
-        self.live[part.asked] += 1
-        frames = 2**self.blocks[part.asked][0]
-        if part.size is None:
-            self.used.add_block(frames)
-        else:
-            self.used.add_object(part.frame, frames, part.size)
-        parts.append(part)
-
-    def note(self, parts):
-        """Notes what the tenant has, after a request was met by these parts. Does nothing if there are no parts."""
-        for part in parts:
-            if self.live[part.asked] > self.most[part.asked]:
-                self.most[part.asked] = self.live[part.asked]
-        if parts:
-            self.used.note(len(self.slots), 2**self.blocks[parts[0].asked][0])
-
     def take(self, name, size, asked):
         """Takes an object of this size for `asked` requested bytes. If it is too large for a cache, allocates page blocks."""
         if size > GREATEST_OBJECT:
-            return self.alloc(name, -(-size // FRAME))
-        self.give(name, AGAIN)
-        parts, cache = self.things.setdefault(name, []), self.cache_of[size]
-        line = f'{self.number} take {cache}'
-        place = self.request(line)
+            self.alloc(name, -(-size // FRAME))
+        else:
+            self.take_from(self.cache_of[size], name, asked)
+
+    def take_from(self, cache, name, asked):
+        """Takes an object of a cache for `asked` requested bytes.
+
+        If the cache's slabs have one frame, and a frame is free for each object that was requested since the last reply and for
+        this one, the request cannot be refused."""
+        if name in self.things:
+            self.give(name, AGAIN)
+        machine = self.machine
+        if cache.order == 0 and (len(self.slots) << machine.order) - self.used.frames > machine.takes:
+            self.things[name] = None
+            machine.takes += 1
+            machine.lines.append(cache.request)
+            machine.notes.append((self, name, cache, asked))
+            if len(machine.lines) == MAX_WAITING:
+                machine.settle()
+            return
+        place = self.request(cache.request)
         if place is not None:
-            order = self.blocks[line][0]
-            slab = place // FRAME >> order << order
-            self.keep(parts, Part(f'{self.number} give {cache} {place}', line, slab, asked))
-            self.note(parts)
-        self.told['objects taken' if parts else 'objects refused for want of frames'] += 1
+            self.keep_object(name, cache, asked, f'{self.number}> object {place}')
+        else:
+            self.things[name] = []
+            self.told['objects refused for want of frames'] += 1
+
+    def keep_object(self, name, cache, asked, reply):
+        """Notes that partmem gave an object of a cache, of `asked` requested bytes, to the allocation with this name. Raises
+        ValueError if the reply is another one."""
+        place, order = int(reply[self.before_place:]), cache.order
+        slab = place // FRAME >> order << order
+        self.things[name] = f'{cache.give}{place}', cache, slab, asked
+        self.slots[slab >> self.machine.order] += 1
+        cache.live += 1
+        if cache.live > cache.most:
+            cache.most = cache.live
+        self.used.add_object(slab, 1 << order, asked, len(self.slots))
 
     def alloc(self, name, frames):
         """Allocates page blocks with at least this number of frames together. While more than a slot's frames are missing, a
         block is a whole slot; the last block is the smallest that is enough. If a block is refused, frees those before it."""
         self.give(name, AGAIN)
-        parts = self.things.setdefault(name, [])
+        parts = self.things[name] = []
         while frames > 0:
             order = min((frames - 1).bit_length(), self.machine.order)
             line = f'{self.number} alloc {order}'
@@ -356,30 +451,65 @@ class Tenant:
                 self.give(name)
                 self.things[name] = []
                 break
-            self.blocks[line] = order, 1
-            self.keep(parts, Part(f'{self.number} free {frame}', line, frame, None))
+            parts.append(self.keep_block(line, order, frame))
             frames -= 2**order
-        self.note(self.things[name])
-        self.told['page blocks allocated' if self.things[name] else 'page blocks refused for want of frames'] += 1
+        self.note_blocks(self.things[name])
+
+    def keep_block(self, line, order, frame):
+        """Returns the part for a page block that partmem gave for this line."""
+        kind = self.kind(line, '', order, 1)
+        self.slots[frame >> self.machine.order] += 1
+        kind.live += 1
+        self.used.add_block(2**order)
+        return f'{self.number} free {frame}', kind, frame, None
+
+    def note_blocks(self, parts):
+        """Notes what the tenant has, after a request was met by these page blocks, or was refused if there are none."""
+        for _, kind, _, _ in parts:
+            kind.most = max(kind.most, kind.live)
+        if parts:
+            self.used.note(len(self.slots), 2**parts[0][1].order)
+        self.told['page blocks allocated' if parts else 'page blocks refused for want of frames'] += 1
 
     def give(self, name, what=None):
         """Gives back all parts of the allocation with this name, and counts that as `what`. Returns whether there was one."""
-        if name not in self.things:
+        found = self.things.pop(name, False)
+        if found is None:
+            self.machine.settle()
+            found = self.things.pop(name)
+        if found is False:
             return False
         if what:
             self.told[what] += 1
-        for part in self.things.pop(name):
-            self.machine.ask(part.back)
-            self.drop(part)
+        if type(found) is tuple:
+            self.give_part(found)
+        else:
+            for part in found:
+                self.give_part(part)
         return True
 
-    def drop(self, part):
-        frames, slot = 2**self.blocks[part.asked][0], part.frame >> self.machine.order
-        if part.size is None:
-            self.used.drop_block(frames)
+    def give_part(self, part):
+        """Gives back a part. If something else is left in its slot, nothing depends on the reply."""
+        machine = self.machine
+        if self.slots[part[2] >> machine.order] > machine.gives + 1:
+            machine.gives += 1
+            machine.lines.append(part[0])
+            machine.notes.append((self, part, None, 0))
+            if len(machine.lines) == MAX_WAITING:
+                machine.settle()
         else:
-            self.used.drop_object(part.frame, frames, part.size)
-        self.live[part.asked] -= 1
+            machine.ask(part[0])
+            self.drop(part)
+
+    def drop(self, part):
+        """Notes that a part was given back."""
+        _, kind, frame, asked = part
+        if asked is None:
+            self.used.drop_block(1 << kind.order)
+        else:
+            self.used.drop_object(frame, 1 << kind.order, asked)
+        kind.live -= 1
+        slot = frame >> self.machine.order
         self.slots[slot] -= 1
         if self.slots[slot] == 0:
             self.take_back(2)
@@ -401,6 +531,10 @@ class Tenant:
     def count_size(self, asked):
         self.sizes[summary.bits(asked)] += 1
 
+    def counts(self):
+        """Returns how often each thing happened that the summary counts."""
+        return self.told + collections.Counter({'objects taken': self.used.taken})
+
     def tell_more(self):
         """Prints more about the load, in the summary. Prints nothing unless a subclass does."""
 
@@ -408,7 +542,7 @@ class Tenant:
         """Returns a list of (order, the most blocks of this order at a time): one pair for each order of page blocks, and one for
         the slabs of each cache. A cache makes a slab only when all its others are full, so it never has more slabs than the
         greatest number of its live objects needs."""
-        return [(order, -(-self.most[line] // things)) for line, (order, things) in self.blocks.items() if self.most[line]]
+        return [(kind.order, -(-kind.most // kind.things)) for kind in self.kinds.values() if kind.most]
 
 
 def larger(given):
@@ -417,27 +551,32 @@ def larger(given):
     return more + ('a larger --order, ' if given.order < ORDERS[-1] else '')
 
 
-def convert(given, read, size_of, kind, name_of=str):
-    """Writes the trace and the summary of the logs. Reads each log twice: first alone, to check it and to find the sizes that it
-    requests, and then together with the others, merged by time. Each log is a tenant of class `kind`, which applies the log's
+def convert(given, survey, kind, name_of=str):
+    """Writes the trace and the summary of the logs. First, `survey` reads each log alone, to check it and to find the sizes that it
+    requests. Then the events of all logs are merged by time. Each log is a tenant of class `kind`, which applies the log's
     events. `name_of` returns the name of the tenant from the path of its log."""
     sys.stdout.reconfigure(encoding='utf-8')
-    surveys, names = [Survey(read(path), size_of) for path in given.logs], [name_of(path) for path in given.logs]
+    gc.disable()    # nothing here refers to itself, and there are many small things
+    surveys, names = [survey(path) for path in given.logs], [name_of(path) for path in given.logs]
     machine = Machine(given)
     for number, name in enumerate(names):
         write(remark(number, name))
-    clock = Clock(longest(surveys, given.together))
-    tenants = [kind(machine, it.counts) for it in surveys]
+    whole = max(longest(surveys, given.together), 1)
+    clock = Clock(whole)
+    tenants = [kind(machine, it) for it in surveys]
 
-    def events_of(tenant, path):
-        first = None
-        for time, *event in read(path):
-            first = time if first is None else first
-            yield time - first if given.together else time, tenant, event
-
-    for time, tenant, event in heapq.merge(*map(events_of, tenants, given.logs), key=lambda it: it[0]):
-        clock.tell(time)
-        tenant.apply(*event)
+    starts = [it.first if given.together else 0 for it in surveys]
+    events = [zip(itertools.repeat(tenant), itertools.repeat(start), it.events)
+              for tenant, start, it in zip(tenants, starts, surveys)]
+    merged_events = heapq.merge(*events, key=lambda it: it[2][0] - it[1]) if len(events) > 1 else events[0]
+    for tenant, start, event in merged_events:
+        if event[0] - start >= clock.soonest:
+            if machine.lines:
+                machine.settle()
+            clock.tell(event[0] - start)
+            PROGRESS.tell(f'{100 * clock.passed // whole} % of the time converted')
+        tenant.apply(event)
+    PROGRESS.erase()
     machine.end()
     for tenant, name in zip(tenants, names):
         print(f'tenant {tenant.number} is {visible(name)}', file=sys.stderr)
