@@ -62,7 +62,7 @@ function showVerdict({ isSame, text, causes, events }) {
   } else if (causes.length) {
     say('other', 'Different, because the private machine did not get the same.',
       ['The left side has ', ...listed(causes), '. This is about tenant 1 itself, and only the shared memory got it. ', rule],
-      ['Check “The private machine gets what the left side does to tenant 1”, and the replies are the same again.'], ...notes)
+      ['Check “Tell the private machine what the left side does to tenant 1”, and the replies are the same again.'], ...notes)
   } else {
     say('other', 'Different, and nothing on this page explains it.',
       ['Tenant 1 got the same on both machines. So this page, or partmem, is wrong: please report the lines of both sides.'],

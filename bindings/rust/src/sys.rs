@@ -57,7 +57,7 @@ pub struct Heap {
 pub const MAX_CLASSES: usize = 24;
 
 // The sizes that tests/use-from-c/layout.c checks in the headers.
-const _: () = assert!(size_of::<Machine>() == 24 && size_of::<Tenant>() == 16 && size_of::<Lent>() == 16);
+const _: () = assert!(size_of::<Machine>() == 24 && size_of::<Tenant>() == 16 && size_of::<Lent>() == 24);
 const _: () = assert!(size_of::<Config>() == 12 && size_of::<Slot>() == 8 && size_of::<Cache>() == 20);
 const _: () = assert!(size_of::<Memory>() == 16 && size_of::<HeapConfig>() == 16 && size_of::<Heap>() == 960);
 const _: () = assert!(size_of::<Figures>() == 740);
