@@ -7,7 +7,7 @@ import sys
 from errno import EACCES, EISDIR, ENOENT
 
 from .maker import OF_CACHES, OF_TENANT
-from .shorten import SHORTENING, SHORTENING_OF_HANGING
+from .shorten import SHORTENING
 from .talk import SECONDS
 from .traces import LIMITS
 from .words import Sizes
@@ -25,8 +25,8 @@ EXITS = f"""exit status:
   {BROKEN}  a load breaks a promise
   {UNUSABLE}  the command line or a trace is wrong, a tool or conformance/check itself fails, or nothing can be written
   {FAILED}  PROGRAM fails: it cannot be run, ends before it has answered, ends with a status other than 0, prints
-     without end, or takes more than {SECONDS} seconds, longer on a busy machine, for a reply or to exit at the
-     end of its input"""
+     without end, or takes more than {SECONDS} seconds for a reply or to exit at the end of its input: of
+     processor time, or of the clock while it uses none"""
 
 
 class Parser(argparse.ArgumentParser):
@@ -86,7 +86,7 @@ def add_loads(add):
     add('--jobs', type=number(int, 1, MAX_JOBS), default=min(len(os.sched_getaffinity(0)), MAX_JOBS), metavar='J',
         help=f'how many loads are run at a time, 1 to {MAX_JOBS} (default: one for each processor)')
     add('--shorten', type=number(float, 0), metavar='SECONDS',
-        help=f'how long a load is shortened, at most (default: {SHORTENING}, and {SHORTENING_OF_HANGING} if PROGRAM hangs)')
+        help=f'how long a load is shortened, at most (default: {SHORTENING})')
 
 
 def options_of(words, description):

@@ -9,14 +9,13 @@ from .runs import has_done, tenant_of
 from .talk import SECONDS, Failure, Programs
 from .words import MIN_ORDER, Sizes, counted, in_seconds, is_number, told_in
 
-# For how many seconds a load is shortened. The second number is for a program that hangs: each run that shows this waits until
-# the time for a reply is over.
-SHORTENING, SHORTENING_OF_HANGING = 30, 4
+# For how many seconds a load is shortened.
+SHORTENING = 30
 # While the load of a program that hangs is shortened, a reply may take TIMES_SLOWEST times as long as the slowest reply of the
 # whole load, but at least MIN_SECONDS and at most SECONDS. A program that crashes may take SECONDS, since it may need long to
 # print its stack.
-TIMES_SLOWEST, MIN_SECONDS = 10, 0.2
-# Seconds that a reply may take when the shortened failure is run once more: a busy machine makes a program look as if it hung.
+TIMES_SLOWEST, MIN_SECONDS = 10, 0.1
+# Seconds that a reply may take when the shortened load of a program that hangs is run once more, and is ended by SIGABRT.
 SECONDS_AGAIN = 1
 # The kinds of failures that need no wait begin with these words.
 AT_ONCE = 'by ', 'with status '
@@ -130,8 +129,6 @@ class Shortener:
     def on_a_smaller_machine(self):
         """Reduces the machine to the tenants that are named, the most superblocks that are owned at a time, and the least order
         that shows the finding."""
-        if not is_at_once(self.case.finding):
-            return
         self.with_first_tenants()
         run = self.case.run
         needed = needed_by(run, self.fixed)
@@ -261,16 +258,16 @@ def shortened(options, case, note):
     is_failure, seconds, patience = isinstance(case.finding, Failure), options.shorten, SECONDS
     if not is_failure and case.finding.is_unsteady:
         return case, None
-    if not is_at_once(case.finding):
+    is_hanging = not is_at_once(case.finding)
+    if is_hanging:
         patience = min(SECONDS, max(MIN_SECONDS, TIMES_SLOWEST * case.run.slowest))
-    if seconds is None:
-        seconds = SHORTENING if is_at_once(case.finding) else SHORTENING_OF_HANGING
-    judge = Judge(options, Programs(options.command, patience))
+    seconds = SHORTENING if seconds is None else seconds
+    judge = Judge(options, Programs(options.command, patience, aborts=not is_hanging))
     fixed = Sizes(options.order, options.superblocks, options.tenants)
     shortener = Shortener(judge, case, time.monotonic() + seconds, note, fixed)
     is_shortest, short = shortener.shorten(), shortener.case
-    if is_failure and short is not case and patience < SECONDS_AGAIN:
-        again = Judge(options, Programs(options.command, SECONDS_AGAIN))
+    if is_hanging and short is not case:
+        again = Judge(options, Programs(options.command, max(patience, SECONDS_AGAIN)))
         short = again.shows(short.run.sizes, short.run.exchanges, short.finding) or case
         is_shortest = is_shortest and short is not case
     return judge.steady(short), None if is_shortest else seconds

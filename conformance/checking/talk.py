@@ -10,10 +10,16 @@ import time
 from typing import NamedTuple
 
 from . import children
-from .words import ending, in_seconds, words_of
+from .children import STEP, Budget
+from .words import ending, words_of
 
-# The seconds that the program may take for a reply, and to exit, if the machine is not busy.
+# The seconds that the program may take for a reply, and to exit. They are counted by children.Budget.
 SECONDS = 5
+# The seconds that a program may take to end after SIGABRT. A sanitizer may need long to print its stack.
+SECONDS_TO_ABORT = 5
+# The kinds of failures of a program that still runs, and the variables with the options of sanitizers.
+STILL_RUNNING = 'hangs', 'stays', 'closed'
+OF_SANITIZERS = 'ASAN_OPTIONS', 'MSAN_OPTIONS', 'TSAN_OPTIONS', 'UBSAN_OPTIONS'
 # For how many seconds standard error is still read after the program was killed.
 SECONDS_OF_ERRORS = 0.2
 # At the end of a run the program may print at most MAX_UNASKED bytes that answer no line. During the run at most MAX_WAITING
@@ -47,20 +53,22 @@ class CannotRun(Exception):
     """Raised if the program cannot be started."""
 
 
-def on_this_machine(seconds):
-    """Returns how many seconds to wait. If more processes want to run than there are processors, the wait is longer in
-    proportion."""
-    return round(seconds * max(1, os.getloadavg()[0] / len(os.sched_getaffinity(0))), 1)
+def options_of_sanitizers(environment):
+    """Returns the variables that make a sanitizer print the stack at SIGABRT. Leaves out those that say what it does then."""
+    options = {name: environment.get(name, '') for name in OF_SANITIZERS}
+    return {name: f'{text}:handle_abort=1'.lstrip(':') for name, text in options.items() if 'handle_abort' not in text}
 
 
 class Programs(NamedTuple):
-    """Starts runs of the program."""
+    """Starts runs of the program. A reply may take `seconds`. If the program still runs after that, it is ended by SIGABRT if
+    `aborts`, or else by SIGKILL."""
     command: list
     seconds: float = SECONDS
+    aborts: bool = True
 
     def start(self, sizes):
         try:
-            return Talk(self.command + words_of(sizes), on_this_machine(self.seconds))
+            return Talk(self.command + words_of(sizes), self.seconds, self.aborts)
         except OSError as error:
             name, is_here = self.command[0], os.sep not in self.command[0] and os.path.isfile(self.command[0])
             advised = f'; did you mean ./{name}?' if is_here else ''
@@ -71,9 +79,10 @@ class Talk:
     """A run of the program in its own process group. At the end of the run all descendants of this process are killed, so this
     process can have only one run at a time."""
 
-    def __init__(self, command, seconds):
+    def __init__(self, command, seconds, aborts):
         self.process = subprocess.Popen(command, stdin=subprocess.PIPE, stdout=subprocess.PIPE, stderr=subprocess.PIPE,
                                         bufsize=0, **GROUP_OF_ITS_OWN)
+        self.aborts = aborts
         self.seconds, self.sent, self.answered, self.slowest = seconds, 0, 0, 0.0
         self.unsent, self.is_input_closed = b'', False
         self.ready, self.held, self.heard = collections.deque(), '', 0
@@ -116,14 +125,16 @@ class Talk:
 
     def wait(self, owed):
         """Waits until the next `owed` lines are printed."""
-        start = time.monotonic()
+        budget = Budget(self.seconds)
         while len(self.ready) < owed:
             self.pause()
-            if self.output not in self.open or not self.hear(start + self.seconds):
-                raise self.unanswered()
+            if self.output in self.open:
+                self.hear(time.monotonic() + STEP)
+            if len(self.ready) < owed and (self.output not in self.open or budget.is_spent()):
+                raise self.unanswered(budget)
             if len(self.ready) < owed and self.waiting() > MAX_WAITING:
                 raise self.babble()
-        self.slowest = max(self.slowest, time.monotonic() - start)
+        self.slowest = max(self.slowest, budget.spent())
 
     def pause(self):
         """If many replies are missing, waits for about as long as a fast program needs for them. So many replies are read at
@@ -149,11 +160,12 @@ class Talk:
         if self.unsent:
             raise self.failed('deaf', f'it answers without reading: line {self.answered} does not fit into the pipe any more')
         self.process.stdin.close()
-        is_over = self.exits(time.monotonic() + self.seconds)
+        budget = Budget(self.seconds)
+        is_over = self.exits(budget)
         if self.waiting() > MAX_UNASKED:
             raise self.babble()
         if not is_over:
-            raise self.failed('stays', f'it did not exit within {in_seconds(self.seconds)} of the end of its input')
+            raise self.failed('stays', f'it did not exit within {budget} of the end of its input')
         self.finish()
         if self.process.returncode:
             how = ending(self.process.returncode)
@@ -190,32 +202,35 @@ class Talk:
         self.first_errors += piece[:space]
         self.last_errors = (self.last_errors + piece[space:])[-LAST_ERRORS:]
 
-    def exits(self, deadline):
-        """Waits for the program to exit. Returns false at the deadline, or as soon as the program has printed too much."""
+    def exits(self, budget):
+        """Waits for the program to exit. Returns false if the budget is spent, or as soon as the program has printed too much."""
         most = self.heard + MAX_UNASKED - self.waiting()
-        while self.open and self.heard <= most and self.hear(deadline):
-            pass
+        while self.open and self.heard <= most:
+            self.hear(time.monotonic() + STEP)
+            if budget.is_spent():
+                break
         if self.heard > most:
             return False
         delay = 0.0005
         while not os.waitid(os.P_PID, self.process.pid, os.WEXITED | os.WNOHANG | os.WNOWAIT):
-            if time.monotonic() + delay > deadline:
+            if budget.is_spent():
                 return False
             time.sleep(delay)
             delay = min(2 * delay, 0.02)
         return True
 
-    def unanswered(self):
+    def unanswered(self, budget):
         """Returns the failure of a program that no longer answers, as an exception. The program has ended, is silent, prints too
         much, or has closed its output or its input."""
         line, is_silent = self.answered + 1, self.output in self.open
-        if self.exits(time.monotonic() + (0 if is_silent else self.seconds)):
+        budget = budget if is_silent else Budget(self.seconds)
+        if self.exits(budget):
             self.finish()
             how = ending(self.process.returncode)
             return self.failed(how, f'it ended {how} before it answered line {line}')
         if self.waiting() > MAX_UNASKED:
             return self.babble()
-        within = f'within {in_seconds(self.seconds)}'
+        within = f'within {budget}'
         if self.is_input_closed or not is_silent:
             closed = 'output' if not is_silent else 'input'
             return self.failed('closed', f'it closed its {closed} before line {line}, and did not exit {within}')
@@ -227,6 +242,10 @@ class Talk:
 
     def failed(self, kind, words):
         """Ends the run, and returns its failure as an exception."""
+        if self.aborts and kind in STILL_RUNNING:
+            with contextlib.suppress(ProcessLookupError):
+                os.killpg(self.process.pid, signal.SIGABRT)
+            self.exits(Budget(SECONDS_TO_ABORT))
         self.finish()
         return ProgramFailed(Failure(kind, words, (self.first_errors + self.last_errors).decode('latin-1')))
 
