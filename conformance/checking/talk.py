@@ -128,9 +128,9 @@ class Talk:
         budget = Budget(self.seconds)
         while len(self.ready) < owed:
             self.pause()
-            if self.output in self.open:
-                self.hear(time.monotonic() + STEP)
-            if len(self.ready) < owed and (self.output not in self.open or budget.is_spent()):
+            is_heard = self.output in self.open and self.hear(time.monotonic() + STEP)
+            is_over = self.output not in self.open or not is_heard and self.has_ended() or budget.is_spent()
+            if len(self.ready) < owed and is_over:
                 raise self.unanswered(budget)
             if len(self.ready) < owed and self.waiting() > MAX_WAITING:
                 raise self.babble()
@@ -206,18 +206,24 @@ class Talk:
         """Waits for the program to exit. Returns false if the budget is spent, or as soon as the program has printed too much."""
         most = self.heard + MAX_UNASKED - self.waiting()
         while self.open and self.heard <= most:
-            self.hear(time.monotonic() + STEP)
-            if budget.is_spent():
+            if not self.hear(time.monotonic() + STEP) and self.has_ended() or budget.is_spent():
                 break
         if self.heard > most:
             return False
         delay = 0.0005
-        while not os.waitid(os.P_PID, self.process.pid, os.WEXITED | os.WNOHANG | os.WNOWAIT):
+        while not self.has_exited():
             if budget.is_spent():
                 return False
             time.sleep(delay)
             delay = min(2 * delay, 0.02)
         return True
+
+    def has_exited(self):
+        return os.waitid(os.P_PID, self.process.pid, os.WEXITED | os.WNOHANG | os.WNOWAIT) is not None
+
+    def has_ended(self):
+        """Returns whether the program has exited, and no child of it runs. A child that sleeps may hold its pipes open."""
+        return self.has_exited() and not children.used()[1]
 
     def unanswered(self, budget):
         """Returns the failure of a program that no longer answers, as an exception. The program has ended, is silent, prints too
