@@ -8,7 +8,7 @@ from .judge import Breach
 from .maker import OF_CACHES
 from .plans import MAX_SUPERBLOCKS, MAX_TENANTS
 from .talk import Failure
-from .words import MAX_ORDER, counted, in_seconds, visible, words_of
+from .words import MAX_ORDER, counted, in_seconds, told_in, visible, words_of
 
 # The lines of standard error that are shown: at most MAX_LAST_LINES at its end, at most MAX_TELLING that say what happened, and
 # after each of those at most MAX_MESSAGE lines of its message, and at most MAX_FRAMES stack frames of the next MAX_BEHIND
@@ -50,12 +50,21 @@ class Progress:
             self.stream.flush()
 
 
-def advice(options, case):
-    """Yields sentences that may help."""
+def is_of_caches(line):
+    return bool(set(line.split()[1:2]) & set(OF_CACHES))
+
+
+def has_caches(run):
+    """Returns whether the program answered a command of caches before the last line of a run, with anything but a fault."""
+    return any(is_of_caches(line) and told_in(replies) for line, replies in run.exchanges[:-1])
+
+
+def advice(options, case, whole):
+    """Yields sentences that may help. `whole` is the run before it was shortened."""
     line, replies = case.run.exchanges[-1] if case.run.exchanges else ('', [])
-    of_caches = line.split()[1:2] and line.split()[1] in OF_CACHES and not options.pages
     is_refused = isinstance(case.finding, Failure) and case.finding.kind.startswith('with status')
-    if of_caches and (is_refused or case.finding.kind == 'Form'):
+    is_without = is_of_caches(line) and not options.pages and not has_caches(whole)
+    if is_without and (is_refused or case.finding.kind == 'Form'):
         yield 'If your allocator has no caches, test it with --pages.'
     if isinstance(case.finding, Breach) and case.finding.is_unsteady:
         yield 'The program answers the same lines differently each time. They are all lines up to the first difference.'
@@ -121,9 +130,9 @@ def report_of(name, case, whole=None):
     return [*lines, '', *said_of(case.finding, whole or case.finding)]
 
 
-def ends_of(options, case, stopped, command):
-    """Yields what may help, and the command that runs the load again."""
-    yield from advice(options, case)
+def ends_of(options, case, stopped, command, whole):
+    """Yields what may help, and the command that runs the load again. `whole` is the run before it was shortened."""
+    yield from advice(options, case, whole)
     if stopped is not None:
         yield f'Fewer lines may show it: shortening was stopped after {in_seconds(stopped)}; see --shorten.'
     yield f'Run it again: {command}'
