@@ -41,6 +41,7 @@ class Load(NamedTuple):
     name: object
     reached: Reached
     case: Optional[Case]
+    seconds: float = 0.0                                        # how long it took
 
 
 def load(options, number):

@@ -33,6 +33,13 @@ ALONE = [(8, 1), (8, 16), (8, MAX_SUPERBLOCKS), (8, MAX_SUPERBLOCKS), (7, MAX_SU
 RANKS = 0, 1, 31, 32, 62, 63, 64, 65, 127, 128, 254, 255, -1
 
 
+# The kinds of twelve loads. About how long a load of each kind takes: its mean number of lines with those of the noisy run, and
+# 500 more for the start of the programs.
+KINDS = ('small', 'alone', 'slabs', 'life', 'small', 'slots', 'small', 'alone', 'objects', 'medium', 'one_cache', 'wide')
+COSTS = {'small': 800, 'alone': 5500, 'slabs': 10000, 'life': 12500, 'slots': 4500, 'objects': 6000, 'medium': 3400,
+         'one_cache': 8800, 'wide': 2500}
+
+
 class Plan(NamedTuple):
     sizes: Sizes
     phases: list
@@ -233,8 +240,10 @@ class Planner:
     def plan(self, is_long):
         if is_long:
             return [self.longest, lambda: self.life(100000)][self.number % 2]()
-        kinds = [self.small, self.alone, self.slabs, self.life, self.small, self.slots,
-                 self.small, self.alone, self.objects, self.medium, self.one_cache, self.wide]
-        if not self.with_caches:
-            kinds = [self.small if kind in (self.slabs, self.objects, self.one_cache) else kind for kind in kinds]
-        return kinds[self.number % len(kinds)]()
+        return getattr(self, kind_of(self.number, self.with_caches))()
+
+
+def kind_of(number, with_caches):
+    """Returns the kind of a load, which is a function of Planner."""
+    kind = KINDS[number % len(KINDS)]
+    return 'small' if kind in ('slabs', 'objects', 'one_cache') and not with_caches else kind
