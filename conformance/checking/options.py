@@ -17,7 +17,7 @@ TOP = os.path.dirname(os.path.dirname(os.path.dirname(os.path.abspath(__file__))
 LOADS, LONG_LOADS, MAX_JOBS = 300, 8, 256
 INFINITE = float('inf')
 # Options that say which loads are run, and how. All other options are part of the test, and are repeated to run a load again.
-WHICH = 'loads', 'load', 'seed', 'trace', 'save', 'jobs'
+WHICH = 'loads', 'load', 'seed', 'trace', 'save', 'json', 'junit', 'jobs'
 
 KEPT, BROKEN, UNUSABLE, FAILED = 0, 1, 2, 3
 EXITS = f"""exit status:
@@ -83,6 +83,8 @@ def add_loads(add):
     add('--trace', action='append', metavar='FILE',
         help='run this trace, or all traces of a folder, and no loads; can be given more than once')
     add('--save', metavar='FILE', help='write the shortened trace of a load that breaks a promise or fails, for --trace')
+    add('--json', metavar='FILE', help='also write the result as JSON')
+    add('--junit', metavar='FILE', help='also write the result as XML in the form of JUnit, with a test case for each load')
     add('--jobs', type=number(int, 1, MAX_JOBS), default=min(len(os.sched_getaffinity(0)), MAX_JOBS), metavar='J',
         help=f'how many loads are run at a time, 1 to {MAX_JOBS} (default: one for each processor)')
     add('--shorten', type=number(float, 0), metavar='SECONDS',
@@ -98,7 +100,8 @@ def options_of(words, description):
     options.without += OF_CACHES if options.pages else []
     if options.loads is None:
         options.loads = LONG_LOADS if options.long else LOADS
-    refuse_to_save(parser, options.save or '')
+    for file in options.save, options.json, options.junit:
+        refuse_to_save(parser, file or '')
     for name in ['partcheck', *(['partmem'] if options.exact else [])]:
         file = getattr(options, name)
         if not os.access(file, os.X_OK):
@@ -109,7 +112,7 @@ def options_of(words, description):
 
 
 def refuse_to_save(parser, file):
-    """Exits before the test if `--save` names a folder, or a file in a folder that does not exist."""
+    """Exits before the test if an option names a folder to write to, or a file in a folder that does not exist."""
     if os.path.isdir(file) or not os.path.isdir(os.path.dirname(file) or '.'):
         why = os.strerror(EISDIR if os.path.isdir(file) else ENOENT)
         parser.exit(UNUSABLE, f'conformance/check: cannot write {file}: {why}\n')
