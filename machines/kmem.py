@@ -16,6 +16,10 @@ DECIMAL, HEX = re.compile('[0-9]{1,20}'), re.compile('(0x)?[0-9a-fA-F]{1,16}')
 MAX_ORDER = 13             # Linux has page blocks up to order 10, and up to order 13 with frames of 64 KiB
 MAX_NUMBER = 2**64 - 1     # the greatest pointer, number of a frame, or bytes of an object
 MAX_TIME_CHARACTERS = 40
+# What is before the time of an event: the name of the process that ran, its number, and the processor. ftrace and trace-cmd write
+# a hyphen before the number, and perf a space.
+RAN = re.compile(r'\s*(?:(.*)-(\d{1,10})\s+(?:\([ \d-]*\)\s+)?|(.*\S)\s+(\d{1,10})(?:/\d{1,10})?\s+)\[\d+\]')
+CGROUP = re.compile(r' (/.*|unknown)$')     # behind the fields of an event
 
 
 def number(fields, name, least, most, base=10):
@@ -69,6 +73,19 @@ def event_of(event, fields):
     return 'large' if event.startswith('kmalloc') and size > GREATEST_KMALLOC_IN_SLABS else 'object', pointer, size, asked
 
 
+def owner_of(line, found, by, where):
+    """Returns who caused the event `found` in this line: (key, name). With `by` comm, both are the name of the process. With pid,
+    the key is its number, and the name is both. With cgroup, both are the path of the control group."""
+    if by == 'cgroup':
+        cgroup = CGROUP.search(found[3])
+        return (cgroup[1], cgroup[1]) if cgroup else tenants.fail(f'{where}: the line ends in no control group')
+    ran = RAN.match(line[:found.start()])
+    if not ran:
+        tenants.fail(f'{where}: the line begins with no process, number and processor')
+    comm, pid = ran[1] or ran[3] or '', ran[2] or ran[4]
+    return (comm, comm) if by == 'comm' else (pid, f'{comm} {pid}')
+
+
 def check_line(line, where):
     """Fails if the line says that events are missing in the log."""
     written = WRITTEN.match(line)
@@ -107,8 +124,8 @@ def fail_without_events(path):
     tenants.fail(f'{path} has no event of kmem: it has to be the text of trace-cmd report, of perf script or of ftrace')
 
 
-def read(path):
-    """Yields the events of a log: time, what, name, amount and asked."""
+def read(path, by=None):
+    """Yields the events of a log: time, what, name, amount and asked. With `by`, (key, name) of `owner_of` follows."""
     none = True
     for at, line in tenants.lines_of(path):
         where = f'{path} line {at}'
@@ -118,6 +135,7 @@ def read(path):
             continue
         none, fields = False, fields_of(found)
         check_fields(fields, where)
-        yield parsed(where, time_of, found[1]), *parsed(where, event_of, found[2], fields)
+        owner = (owner_of(line, found, by, where),) if by else ()
+        yield parsed(where, time_of, found[1]), *parsed(where, event_of, found[2], fields), *owner
     if none:
         fail_without_events(path)

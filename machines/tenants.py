@@ -42,7 +42,8 @@ class Progress:
     each `interval`, in seconds."""
 
     def __init__(self, interval):
-        self.interval, self.next, self.is_shown, self.is_terminal = interval, time.monotonic() + interval, False, sys.stderr.isatty()
+        self.interval, self.next = interval, time.monotonic() + interval
+        self.is_terminal, self.is_shown, self.is_converting = sys.stderr.isatty(), False, False
 
     def tell(self, text):
         if self.is_terminal and time.monotonic() >= self.next:
@@ -64,13 +65,16 @@ def fail(text, status=1):
     sys.exit(status)
 
 
-def arguments(description):
+def arguments(description, **more):
+    """Returns the arguments. `more` has an option --by with these choices, if it is not empty."""
     given = argparse.ArgumentParser(description=description, formatter_class=argparse.RawDescriptionHelpFormatter)
     given.add_argument('--order', type=int, default=8, metavar='S', help='a superblock has 2^S frames, S 3 to 8 (8)')
     given.add_argument('--superblocks', type=int, default=256, metavar='N', help='how many superblocks there are, 1 to 256 (256)')
     given.add_argument('--together', action='store_true', help='let all logs begin at the same time')
     given.add_argument('--partmem', metavar='PROGRAM', help='the partmem to run (the proved one, or else the unproved one)')
     given.add_argument('--largest', type=int, metavar='N', help='take the N largest logs, 1 to 64; a LOG may be a folder')
+    if more:
+        given.add_argument('--by', **more)
     given.add_argument('logs', nargs='+', metavar='LOG', help='1 to 64 files, each a tenant, gzipped if the name ends in .gz')
     return checked(given.parse_args())
 
@@ -89,6 +93,8 @@ def checked(given):
     if len(given.logs) > MAX_TENANTS:
         fail(f'{len(given.logs)} logs: each is a tenant, and a machine has at most {MAX_TENANTS}. Convert fewer of them, '
              'or the largest by --largest N', 2)
+    if getattr(given, 'by', None) and len(given.logs) > 1:
+        fail(f'--by {given.by}: it divides one log into tenants, and not {len(given.logs)}', 2)
     given.partmem = given.partmem or built.program(own_name(), 'partmem') or fail(f'there is no partmem: {built.HOW}')
     return given
 
@@ -139,7 +145,7 @@ def lines_of(path):
     need not be exact."""
     with opened(path) as file:
         for at, line in lines_in(file, path):
-            if at % LINES_BETWEEN == 0:
+            if at % LINES_BETWEEN == 0 and not PROGRESS.is_converting:
                 PROGRESS.tell(f'{at} lines of {path} read')
             yield at, line
 
@@ -153,8 +159,8 @@ def pieces_of(path):
             if not text.endswith('\n'):
                 text += file.readline(MAX_CHARACTERS + 1)
             yield at, text
-            PROGRESS.tell(f'{at} lines of {path} read')
             at += text.count('\n')
+            PROGRESS.tell(f'{at - 1} lines of {path} read')
 
 
 @contextlib.contextmanager
@@ -269,8 +275,8 @@ def merged(counts, most):
 class Machine:
     """A running partmem, and the trace of all lines that were sent to it."""
 
-    def __init__(self, given):
-        sizes = f'--order {given.order} --superblocks {given.superblocks} --tenants {len(given.logs)}'
+    def __init__(self, given, count):
+        sizes = f'--order {given.order} --superblocks {given.superblocks} --tenants {count}'
         self.order, self.superblocks, self.tenants = given.order, given.superblocks, []
         # The lines that wait. None of them can be refused. For each, who notes the reply: the tenant, and the first arguments of
         # its `keep_object`, or the argument of its `drop`. How many lines take an object, and how many give something back.
@@ -555,27 +561,33 @@ def convert(given, survey, kind, name_of=str):
     """Writes the trace and the summary of the logs. First, `survey` reads each log alone, to check it and to find the sizes that it
     requests. Then the events of all logs are merged by time. Each log is a tenant of class `kind`, which applies the log's
     events. `name_of` returns the name of the tenant from the path of its log."""
-    sys.stdout.reconfigure(encoding='utf-8')
     gc.disable()    # nothing here refers to itself, and there are many small things
     surveys, names = [survey(path) for path in given.logs], [name_of(path) for path in given.logs]
-    machine = Machine(given)
+    starts = [it.first if given.together else 0 for it in surveys]
+    events = [zip(itertools.repeat(number), itertools.repeat(start), it.events)
+              for number, (start, it) in enumerate(zip(starts, surveys))]
+    merged_events = heapq.merge(*events, key=lambda it: it[2][0] - it[1]) if len(events) > 1 else events[0]
+    replay(given, names, surveys, kind, merged_events)
+
+
+def replay(given, names, surveys, kind, events):
+    """Writes the trace and the summary of tenants of class `kind` with these names and surveys. An event is the number of its
+    tenant, a time from which on its time counts, and what `apply` of the tenant needs, which begins with its time."""
+    sys.stdout.reconfigure(encoding='utf-8')
+    machine = Machine(given, len(names))
     for number, name in enumerate(names):
         write(remark(number, name))
     whole = max(longest(surveys, given.together), 1)
     clock = Clock(whole)
+    PROGRESS.is_converting = True
     tenants = [kind(machine, it) for it in surveys]
-
-    starts = [it.first if given.together else 0 for it in surveys]
-    events = [zip(itertools.repeat(tenant), itertools.repeat(start), it.events)
-              for tenant, start, it in zip(tenants, starts, surveys)]
-    merged_events = heapq.merge(*events, key=lambda it: it[2][0] - it[1]) if len(events) > 1 else events[0]
-    for tenant, start, event in merged_events:
+    for number, start, event in events:
         if event[0] - start >= clock.soonest:
             if machine.lines:
                 machine.settle()
             clock.tell(event[0] - start)
             PROGRESS.tell(f'{100 * clock.passed // whole} % of the time converted')
-        tenant.apply(event)
+        tenants[number].apply(event)
     PROGRESS.erase()
     machine.end()
     for tenant, name in zip(tenants, names):
