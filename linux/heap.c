@@ -22,13 +22,15 @@ static struct unused *unused[PAGE];
 static uint8_t power_in[PAGES]; /* by page: the k of the pieces in this page, or of the block that begins there */
 
 /* Maps all places that the partition can name. The number of these places is not known, and a mapping of more places is refused.
- * So this function tries smaller and smaller mappings until one is not refused. */
+ * So this function tries smaller and smaller mappings until one is not refused. A child of a fork does not get the mapping, since
+ * two processes would change one heap; it is killed when it uses the heap. */
 static void start(void)
 {
     file = atoi(getenv("PARTMEM_FILE"));
     for (size_t bytes = (size_t)PAGES << PAGE; !places && bytes; bytes -= 1 << MOST) {
         void *at = mmap(NULL, bytes, PROT_READ | PROT_WRITE, MAP_SHARED, file, 0);
         if (at != MAP_FAILED) places = at;
+        if (places && madvise(places, bytes, MADV_DONTFORK)) abort();
     }
     if (!places) abort();
 }
