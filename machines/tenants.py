@@ -312,13 +312,15 @@ class Machine:
         lines += more
         replies = self.replies(lines)
         try:
-            for (tenant, name, cache, asked), reply in zip(notes, replies):
+            for (tenant, name, cache, asked), line, reply in zip(notes, lines, replies):
                 if cache:
                     tenant.keep_object(name, cache, asked, reply)
+                elif 'refused' in reply:
+                    raise ValueError
                 else:
                     tenant.drop(name)
         except ValueError:
-            fail(f'partmem answered "{cache.request}" by "{reply}"')
+            fail(f'partmem answered "{line}" by "{reply}"')
         return replies
 
     def replies(self, lines):
