@@ -127,7 +127,7 @@ class Pair:
     def reply(self, line):
         """Returns the first line of the library's reply to a line."""
         replies = self.ask(line)
-        self.world.note(line, replies)
+        self.world.note(line.split(), replies)
         return replies[0]
 
     def command(self, tenant, words):
