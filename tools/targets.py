@@ -20,7 +20,7 @@ WORDS = """
     add sub mul udiv urem shl lshr and or xor icmp eq ne ult ule ugt uge slt sle sgt sge select zext sext trunc ptrtoaddr to
     alloca load store getelementptr extractvalue insertvalue align inbounds nuw nsw call ret br switch phi unreachable
     noundef zeroext signext immarg captures none readonly writeonly noalias nonnull
-    nounwind nobuiltin noreturn cold alwaysinline inlinehint nocallback nofree nosync speculatable willreturn
+    nounwind nobuiltin noreturn cold alwaysinline inlinehint noinline nocallback nofree nosync speculatable willreturn
     memory argmem inaccessiblemem write readwrite
 """.split()
 INTRINSICS = ["llvm.memset.p0.i64", "llvm.memmove.p0.p0.i64", "llvm.trap", "llvm.ctlz.i32", "llvm.ctlz.i64", "llvm.cttz.i32",

@@ -131,8 +131,8 @@ def structs_of_source(in_header):
         lines = [line.strip().rstrip(",").removeprefix("pub ") for line in fields.splitlines()]
         pairs = [line.split(": ", 1) for line in lines if line and not line.startswith("ghost")]
         read_of[name] = [(FIELDS.get(field, field), kind) for field, kind in pairs]
-    if [read_of.pop("MachineStorage"), read_of.pop("Slot")] != [[("is_booted", "bool"), ("slot", "Slot")], [("at", "*mut u8")]]:
-        fail("MachineStorage or Slot has other fields than this test expects")
+    if [read_of.pop("MachineStorage"), read_of.pop("KernelCell")] != [[("is_booted", "bool"), ("cell", "KernelCell")], [("at", "*mut u8")]]:
+        fail("MachineStorage or KernelCell has other fields than this test expects")
     # The struct of a table's row is not the type of a parameter. Its C name is the type of the elements of the table's array.
     for name, fields in read_of.items():
         for field, kind in fields:
