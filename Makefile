@@ -23,7 +23,7 @@ try: ## runs partmem on an example, without proofs (2 minutes)
 	cd crates/partmem && rt try -- --order 3 --superblocks 2 --tenants 2 < ../../examples/tenants.trace
 unproved: ## builds the programs and the library for C without proofs (2 minutes)
 	tools/unproved $(PROGRAMS) library
-quick: ## runs the tests that need no proof, over builds without proofs (16 minutes)
+quick: ## runs the tests that need no proof, over builds without proofs (10 minutes)
 	$(AS_A_USER) tests/quick
 list-tests: ## lists the tests, each with the first line of its comment
 	@awk 'FNR == 2 { sub(/^(# |""")/, ""); print FILENAME "\t" $$0 }' tests/*/run tests/{proofs,quick,more-edits} | expand -t 28
