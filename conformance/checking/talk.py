@@ -137,7 +137,7 @@ class Talk:
         self.slowest = max(self.slowest, budget.spent())
 
     def pause(self):
-        """If many replies are missing, waits for about as long as a fast program needs for them. So many replies are read at
+        """If many replies are missing, waits for about as long as a fast program needs for them. Then many replies are read at
         once, since most programs write each alone."""
         missing = self.sent - self.answered
         if missing >= MANY:

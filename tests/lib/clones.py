@@ -30,8 +30,8 @@ for name in "$@"; do
     esac
 done
 """
-# Stands in for tools/unproved in clones whose pages build the same: the first that asks for a program or a library builds it, and the
-# others get a copy.
+# Replaces tools/unproved in clones whose pages build the same. The first clone that needs a program or a library builds it, and
+# the others get a copy.
 SHARED = r"""#!/bin/sh
 cd "$(dirname "$0")/.." && mkdir -p out BUILDS
 for name in "$@"; do
