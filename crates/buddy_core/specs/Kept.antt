@@ -13,7 +13,8 @@ available_in top superblocks tenant u x = is_available top (held_by tenant) (tak
 
 -- the number of a tenant's free blocks of order k
 abbrev pub free_number : ℕ → List StoredSuperblock → ℕ → StoredTenant → ℕ
-free_number top superblocks k tenant = count_below (λ f. is_free top (held_by tenant) (taken_by top superblocks tenant) (block f k)) (length superblocks * 2 ^ top)
+free_number top superblocks k tenant =
+    count_below (λ f. is_free top (held_by tenant) (taken_by top superblocks tenant) (block f k)) (length superblocks * 2 ^ top)
 
 pub record HasTenantSizes (top superblocks : ℕ) (tenant : StoredTenant) : Type 0 where
   pub slots : length tenant.slots ≡ superblocks
@@ -36,5 +37,7 @@ pub record IsKept (top : ℕ) (superblocks : List StoredSuperblock) (tenants : L
   pub order : (m : ℕ) → m < length superblocks → (superblock_of m superblocks).tree.order ≡ top
   pub each : (t : ℕ) → t < length tenants → IsTenantKept top superblocks (stored_tenant t tenants)
   -- no superblock is in two slots
-  pub apart : (t u v w m : ℕ) → superblock_at (stored_tenant t tenants) u ≡ Some m → superblock_at (stored_tenant v tenants) w ≡ Some m → (t ≡ v) × (u ≡ w)
-  pub bare : (m : ℕ) → m < length superblocks → ((t u : ℕ) → superblock_at (stored_tenant t tenants) u ≡ Some m → ⊥) → superblock_of m superblocks ≡ bare_superblock top
+  pub apart : (t u v w m : ℕ) → superblock_at (stored_tenant t tenants) u ≡ Some m
+      → superblock_at (stored_tenant v tenants) w ≡ Some m → (t ≡ v) × (u ≡ w)
+  pub bare : (m : ℕ) → m < length superblocks → ((t u : ℕ) → superblock_at (stored_tenant t tenants) u ≡ Some m → ⊥)
+      → superblock_of m superblocks ≡ bare_superblock top

@@ -8,7 +8,8 @@ use Rattle.buddy_core.specs.Stored.{StoredSuperblock, StoredTenant, stored_tenan
 
 -- if a superblock in a slot of a group has a free block of order j, the group's bit in the word of that order is 1
 abbrev pub IsBounded : List StoredSuperblock → List (Option ℕ) → List ℕ → Type 0
-IsBounded superblocks slots words = (j u m : ℕ) → slice_index_or slots u None ≡ Some m → HasBit superblocks m j → bit_at (slice_index words j) (u / GROUP_SLOTS) ≡ 1
+IsBounded superblocks slots words = (j u m : ℕ) → slice_index_or slots u None ≡ Some m → HasBit superblocks m j
+    → bit_at (slice_index words j) (u / GROUP_SLOTS) ≡ 1
 
 -- each tenant has a summary for which `IsBounded` holds
 pub record AreBounded (superblocks : List StoredSuperblock) (tenants : List StoredTenant) (summaries : List (List ℕ)) : Type 0 where

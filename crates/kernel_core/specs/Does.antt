@@ -12,7 +12,8 @@ use Rattle.kernel_core.specs.Shows.{ShowsMachine}
 -- that the step makes of m, and the call returned the step's answer. All other tenants keep everything. `owned` is the list of
 -- the superblocks' owners after the call. A superblock that lost its owner is marked, and a superblock that got an owner is
 -- unmarked. A superblock without an owner keeps its bytes.
-pub record Does {A : Type 0} (old : KernelContent) (t : ℕ) (step : Machine → Step A) (owned : List (Option Owner)) (new : KernelContent) (told : A) : Type 0 where
+pub record Does {A : Type 0} (old : KernelContent) (t : ℕ) (step : Machine → Step A) (owned : List (Option Owner))
+    (new : KernelContent) (told : A) : Type 0 where
   pub sizes : SameSizes old new
   pub shows : (m : Machine) → ShowsMachine old t m → ShowsMachine new t (step m).machine
   pub answer : (m : Machine) → ShowsMachine old t m → told ≡ (step m).answer

@@ -14,7 +14,8 @@ pub record HasRecord (k : KernelContent) (t f : ℕ) (y : Slab) : Type 0 where
   pub superblock : ℕ
   pub under : superblock_at k t (f / 2 ^ k.order) ≡ Some superblock
   pub bits : (i j : ℕ) → i < 32 → j < 8
-      → is_set (slice_index (superblock_bytes k superblock) (FRAME_BYTES * (f % 2 ^ k.order) + RECORD_OFFSET + i)) j ≡ slice_index_or y.live (8 * i + j) false
+      → is_set (slice_index (superblock_bytes k superblock) (FRAME_BYTES * (f % 2 ^ k.order) + RECORD_OFFSET + i)) j
+      ≡ slice_index_or y.live (8 * i + j) false
 
 -- the control record of every slab of small objects is the bitmap of its live objects
 abbrev pub RecordsStand : KernelContent → Type 0

@@ -19,7 +19,8 @@ KeysHoldPlaces = (places : List (Option (ℕ × ℕ))) (h k : ℕ) → Contains 
 
 -- the length of a list is the number of its nodes
 abbrev pub ListsCountPlaces : Type 0
-ListsCountPlaces = (places : List (Option (ℕ × ℕ))) (h : ℕ) → (length (list_of places h) ≡ count_by (is_in h) places) × (length (keys_of places h) ≡ count_by (is_in h) places)
+ListsCountPlaces = (places : List (Option (ℕ × ℕ))) (h : ℕ)
+    → (length (list_of places h) ≡ count_by (is_in h) places) × (length (keys_of places h) ≡ count_by (is_in h) places)
 
 -- node i of the table is in no list, and no node of list h has the key k
 pub record MayInsert (s : Placed) (h i k : ℕ) : Type 0 where

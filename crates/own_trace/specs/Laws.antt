@@ -24,6 +24,7 @@ OwnListAlone = (limit order superblocks tenants t : ℕ) (trace : List ℕ) → 
 -- If the kept lines are run alone, the tenant gets the same reply lines as in the run of the whole trace. This holds under the
 -- conditions of `OwnListAlone`, for at most 2 ^ 64 tenants.
 abbrev pub LinesAlone : Type 0
-LinesAlone = (limit order superblocks tenants t : ℕ) (trace : List ℕ) → 3 ≤ order → superblocks * 2 ^ order * 4096 ≤ 2 ^ 32 → tenants ≤ 2 ^ 64 → t < tenants →
+LinesAlone = (limit order superblocks tenants t : ℕ) (trace : List ℕ)
+    → 3 ≤ order → superblocks * 2 ^ order * 4096 ≤ 2 ^ 32 → tenants ≤ 2 ^ 64 → t < tenants →
     lines_for t (output_of limit order (own_trace limit order superblocks tenants t trace) (opening_world superblocks tenants))
     ≡ lines_for t (output_of limit order trace (opening_world superblocks tenants))

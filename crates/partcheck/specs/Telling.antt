@@ -115,9 +115,11 @@ reason_text Promise.Still taken = words_of_promise Promise.Still
 
 -- the line if a reply is not allowed; it shows at most 255 bytes of the line of the trace, and at most 200 bytes of the reply
 unfoldable pub breach_text : Breach → (trace_text reply_text : List ℕ) → Option TakenFrame → List ℕ
-breach_text breach trace_text reply_text taken = concat (codes "line " ∷ decimal breach.line ∷ codes ", reply " ∷ decimal breach.reply ∷ codes ": "
+breach_text breach trace_text reply_text taken = concat (
+    codes "line " ∷ decimal breach.line ∷ codes ", reply " ∷ decimal breach.reply ∷ codes ": "
     ∷ excerpt_text (codes "no more lines") 255 (if_read trace_line (take MAX_PART_BYTES trace_text)) ∷ codes ", answered "
-    ∷ excerpt_text (codes "nothing") 200 (if_read without_line_feed (take MAX_TEXT_BYTES reply_text)) ∷ codes ": " ∷ name_of_promise breach.promise ∷ codes ": "
+    ∷ excerpt_text (codes "nothing") 200 (if_read without_line_feed (take MAX_TEXT_BYTES reply_text)) ∷ codes ": "
+    ∷ name_of_promise breach.promise ∷ codes ": "
     ∷ reason_text breach.promise taken ∷ codes "\n" ∷ [])
 
 -- the line of a finding was written; for a breach it shows the line of the trace and the reply that `shown` has

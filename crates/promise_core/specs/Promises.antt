@@ -163,7 +163,16 @@ pub record Tests : Type 0 where
   pub in_still : Bool
 
 abbrev pub passed : Tests
-passed = record { in_blocks = true; in_objects = true; in_layout = true; in_gives = true; in_owners = true; in_bytes = true; in_report = true; in_still = true }
+passed = record {
+  in_blocks = true;
+  in_objects = true;
+  in_layout = true;
+  in_gives = true;
+  in_owners = true;
+  in_bytes = true;
+  in_report = true;
+  in_still = true;
+}
 
 -- Each command has a row for its answer and a row for all other bodies, so that a new command has to be added here. Only
 -- `state_after` says which body is an answer to which command, and only `form` tests this.

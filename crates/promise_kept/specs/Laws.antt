@@ -10,19 +10,23 @@ use Rattle.promise_kept.specs.Meets.{Meets, IsPromiseKept}
 
 -- the reply to an `alloc` keeps the promises
 abbrev pub AllocIsKept : Type 0
-AllocIsKept = (limit order k : ℕ) (m : Machine) (s : State) → IsWellFormed limit order m → Meets order s m → IsPromiseKept limit order (Command.Alloc k) m s
+AllocIsKept = (limit order k : ℕ) (m : Machine) (s : State) → IsWellFormed limit order m → Meets order s m
+    → IsPromiseKept limit order (Command.Alloc k) m s
 
 -- the reply to a `free` keeps the promises
 abbrev pub FreeIsKept : Type 0
-FreeIsKept = (limit order first : ℕ) (m : Machine) (s : State) → IsWellFormed limit order m → Meets order s m → IsPromiseKept limit order (Command.Free first) m s
+FreeIsKept = (limit order first : ℕ) (m : Machine) (s : State) → IsWellFormed limit order m → Meets order s m
+    → IsPromiseKept limit order (Command.Free first) m s
 
 -- the reply to a `write` keeps the promises
 abbrev pub WriteIsKept : Type 0
-WriteIsKept = (limit order place : ℕ) (new : ArrayVec ℕ) (m : Machine) (s : State) → IsWellFormed limit order m → Meets order s m → IsPromiseKept limit order (Command.Write place new) m s
+WriteIsKept = (limit order place : ℕ) (new : ArrayVec ℕ) (m : Machine) (s : State) → IsWellFormed limit order m → Meets order s m
+    → IsPromiseKept limit order (Command.Write place new) m s
 
 -- the reply to a `read` keeps the promises
 abbrev pub ReadIsKept : Type 0
-ReadIsKept = (limit order place len : ℕ) (m : Machine) (s : State) → IsWellFormed limit order m → Meets order s m → IsPromiseKept limit order (Command.Read place len) m s
+ReadIsKept = (limit order place len : ℕ) (m : Machine) (s : State) → IsWellFormed limit order m → Meets order s m
+    → IsPromiseKept limit order (Command.Read place len) m s
 
 -- the reply to a command for a new cache keeps the promises if a slot is at least as large as the largest slab
 abbrev pub CacheIsKept : Type 0
@@ -31,7 +35,8 @@ CacheIsKept = (limit order size align : ℕ) (pattern : ArrayVec ℕ) (m : Machi
 
 -- the reply to a `report` keeps the promises
 abbrev pub ReportIsKept : Type 0
-ReportIsKept = (limit order : ℕ) (m : Machine) (s : State) → IsWellFormed limit order m → Meets order s m → IsPromiseKept limit order Command.Report m s
+ReportIsKept = (limit order : ℕ) (m : Machine) (s : State) → IsWellFormed limit order m → Meets order s m
+    → IsPromiseKept limit order Command.Report m s
 
 -- the reply to a `take` keeps the promises if a slot is at least as large as the largest slab
 abbrev pub TakeIsKept : Type 0

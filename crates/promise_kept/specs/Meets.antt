@@ -59,9 +59,11 @@ pub record Meets (order : ℕ) (s : State) (m : Machine) : Type 0 where
 -- The reply `body` to a tenant's command keeps each promise, and what is known after the reply is true of the machine `after`.
 pub record IsKeptBy (limit order : ℕ) (command : Command) (s : State) (body : Body) (after : Machine) : Type 0 where
   pub allowed : (t : ℕ) (owners : List (Option Owner)) (states : List State)
-      → list_all (λ p. p.1) (kept (Event.Tenant t command) (record { addressee = Addressee.Tenant t; body = body }) (record { limit = limit; order = order; owners = owners; states = states }) s) ≡ true
+      → list_all (λ p. p.1) (kept (Event.Tenant t command) (record { addressee = Addressee.Tenant t; body = body })
+      (record { limit = limit; order = order; owners = owners; states = states }) s) ≡ true
   pub meets : (t : ℕ) → (next : State) × (state_after order (Event.Tenant t command) body s ≡ Some next) × Meets order next after
 
 -- The private machine's reply to the command keeps each promise, and what is then known is true of the machine after the command.
 abbrev pub IsPromiseKept : ℕ → ℕ → Command → Machine → State → Type 0
-IsPromiseKept limit order command m s = IsKeptBy limit order command s (command_step limit order command m).answer (command_step limit order command m).machine
+IsPromiseKept limit order command m s =
+    IsKeptBy limit order command s (command_step limit order command m).answer (command_step limit order command m).machine

@@ -10,7 +10,8 @@ use Rattle.replay_core.specs.Noting.{Noting}
 use Rattle.replay_core.specs.Standing.{AnswersRead}
 
 -- nothing was done (None), or the line of `len` bytes at the front was a command of a tenant, which was run and answered in full
-abbrev pub HasAnsweredLine : {N : Type 0} → Noting N → List ℕ → KernelContent → KernelContent → Option (List ℕ) → Option (List ℕ) → Bool → Run N → Run N → Option ℕ → Type 0
+abbrev pub HasAnsweredLine : {N : Type 0} → Noting N → List ℕ → KernelContent → KernelContent → Option (List ℕ) → Option (List ℕ)
+    → Bool → Run N → Run N → Option ℕ → Type 0
 HasAnsweredLine noting bytes before after old new failing run run' None =
     (after ≡ before) × (new ≡ old) × (failing ≡ false) × (run' ≡ run)
 HasAnsweredLine noting bytes before after old new failing run run' (Some len) = (tenant : ℕ) × (command : Command)

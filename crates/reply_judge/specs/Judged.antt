@@ -71,7 +71,8 @@ IsVerdictFor event body w old new (Err (Failure.Memory error)) =
 
 -- the answer is a refusal, or it does not fit the event
 abbrev pub IsUnfit : Event → Answer → Type 0
-IsUnfit event answer = (order : ℕ) (s : State) → ((r : Refusal) → answer ≡ Answer.Refused r → ⊥) → state_after order event (body_of_answer answer) s ≡ None
+IsUnfit event answer = (order : ℕ) (s : State) → ((r : Refusal) → answer ≡ Answer.Refused r → ⊥)
+    → state_after order event (body_of_answer answer) s ≡ None
 
 -- if the result is `Ok`, `new` has the owners after the reply; if it is a failure, the owners are unchanged
 abbrev pub AreOwnersAfter : Event → Body → List (Option Owner) → List (Option Owner) → Result (Unit {0}) Failure → Type 0

@@ -119,7 +119,8 @@ fault_at fault text = do
 -- any fault at the front of the text
 unfoldable pub some_fault_at : List ℕ → Option (Body × List ℕ)
 some_fault_at text =
-    fault_at LineFault.Long text or_else fault_at LineFault.Unknown text or_else fault_at LineFault.Words text or_else fault_at LineFault.Number text or_else fault_at LineFault.Hex text
+    fault_at LineFault.Long text or_else fault_at LineFault.Unknown text or_else fault_at LineFault.Words text
+    or_else fault_at LineFault.Number text or_else fault_at LineFault.Hex text
 
 unfoldable pub notice_at : List ℕ → Option (Body × List ℕ)
 notice_at text = granted_at text or_else taken_at text or_else reset_at text or_else moved_at text or_else some_fault_at text
