@@ -18,8 +18,8 @@ static void set_gate(unsigned vector, const char *stub, uint8_t stack, uint8_t k
 }
 
 /* Sets up gates that turn interrupts off, so one call to the library runs at a time in the kernel (duty 8). NMI, double fault and
- * machine check can still interrupt the kernel. They have their own stack, since libpartmem.a uses the 128 bytes below its
- * stack pointer (duty 9). */
+ * machine check can still interrupt the kernel. They have their own stack, since the kernel's may have overflowed (duty 9). The
+ * bytes below the stack pointer are no reason for it: libpartmem_kernel.a uses none, nor does the kernel (-mno-red-zone). */
 static void set_up_gates(void)
 {
     for (unsigned vector = 0; vector < 48; vector++)

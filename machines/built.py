@@ -25,9 +25,6 @@ def program(user, name):
 
 
 def library(user):
-    return found(user, ['out/lib/libpartmem.a', 'lib/libpartmem.a'], 'out/libpartmem-unproved.a')
-
-
-def library_for_linux(user):
-    names = [f'{folder}/libpartmem_linux.a' for folder in ('out/lib', 'lib')]
-    return found(user, names, 'out/libpartmem_linux-unproved.a')
+    """Finds the library for the script `user`: libpartmem_kernel.a for `kernel`, and libpartmem_linux.a for `linux`."""
+    names = [f'{folder}/libpartmem_{user}.a' for folder in ('out/lib', 'lib')]
+    return found(user, names, f'out/libpartmem_{user}-unproved.a')
