@@ -24,7 +24,7 @@ enter:  cli
         movl    $kernel_pointers + 3, kernel_root
         movl    $kernel_root, %eax
         movl    %eax, %cr3
-        movl    $0x620, %eax                    /* PAE, FXSAVE and SSE: the library may use vector registers */
+        movl    $0x620, %eax                    /* PAE; FXSAVE and SSE, for the partitions */
         movl    %eax, %cr4
         movl    $0xc0000080, %ecx
         rdmsr

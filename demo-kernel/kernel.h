@@ -13,7 +13,7 @@
  *      6 Flows           say, fault: a partition learns its own results and places, and no address
  *      7 Users           lent_object, drop_object: users name endpoints in system calls, and never a thread's object
  *      8 Threads         set_up_gates: interrupts are off in the kernel, so one call runs at a time
- *      9 Ring 0          save_vectors, load_vectors, guard_stack, enter_kernel: vector registers, the stack, the flags
+ *      9 Ring 0          guard_stack, enter_kernel: the stack, the flags. libpartmem_kernel.a requires no more
  *     10 After the end   end_memory: clears the RAM and the tables
  *     11 Mapping         map_block: maps what partmem_alloc or partmem_lend_block returned, and nothing else
  *     12 Unmapping       unmap: before each free, move and reset; there is one processor, and no device uses the RAM

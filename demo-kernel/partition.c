@@ -62,16 +62,19 @@ static const struct thread *thread_of(unsigned t, const struct context *context)
     return thread;
 }
 
-/* ---- Duty 9: a user's vector registers, before the first call to the library and after the last -------------------------- */
+/* ---- Vector registers --------------------------------------------------------------------------------------------------- */
 
-static void save_vectors(struct context *context)
-{
-    if (planted != NO_VECTORS) __asm__ volatile("fxsave64 %0" : "=m"(context->vectors));
-}
+static struct context *vectors_of; /* the processor has the vector registers of this context; if NULL, of none that is there */
 
-static void load_vectors(const struct context *context)
+/* Saves the vector registers, and loads those of the context that runs next. If the thread stays the same, they stay in the
+ * processor, since neither the kernel (-mgeneral-regs-only) nor libpartmem_kernel.a uses them. A kernel over libpartmem.a has to
+ * save them before each call to the library (duty 9). */
+static void switch_vectors(struct context *next)
 {
-    if (planted != NO_VECTORS) __asm__ volatile("fxrstor64 %0" : : "m"(context->vectors));
+    if (vectors_of == next || planted == NO_VECTORS) return;
+    if (vectors_of) __asm__ volatile("fxsave64 %0" : "=m"(vectors_of->vectors));
+    __asm__ volatile("fxrstor64 %0" : : "m"(next->vectors));
+    vectors_of = next;
 }
 
 /* ---- Threads ------------------------------------------------------------------------------------------------------------ */
@@ -86,6 +89,7 @@ static uint64_t start_thread(unsigned t, uint64_t address, uint64_t stack, uint6
     while (number < THREADS && contexts[t][number].is_there) number++;
     if (number == THREADS || !is_of_user(address) || !is_of_user(stack)) return REFUSED;
     struct context *context = &contexts[t][number];
+    if (vectors_of == context) vectors_of = NULL; /* the thread that was there has ended */
     *context = (struct context){.registers = {.gs = 0x1b, .fs = 0x1b, .es = 0x1b, .ds = 0x1b, .rdi = argument, .rip = address,
                                               .cs = 0x23, .rflags = 0x202, .rsp = stack - 8, .ss = 0x1b}};
     context->vectors[0] = 0x7f, context->vectors[1] = 0x03;   /* the x87 control word */
@@ -293,17 +297,17 @@ static void choose_partition(bool is_end_of_turn)
     panic("no partition can run");
 }
 
-/* Enters the address space of the partition whose turn it is, loads its vector registers, and puts its other registers into
- * `registers`, from which resume loads them. */
+/* Enters the address space of the partition whose turn it is, switches to the vector registers of its thread, and puts the other
+ * registers into `registers`, from which resume loads them. */
 static void switch_to_current(struct registers *registers)
 {
     const struct registers before = *registers;
-    const struct context *context = turn_of(current);
+    struct context *context = turn_of(current);
     enter_space(current);
     *registers = context->registers;
     if (planted == NO_FLAGS) registers->rflags ^= (registers->rflags ^ before.rflags) & 0x244000;
     if (planted == NO_SELECTORS) registers->gs = before.gs, registers->fs = before.fs, registers->es = before.es;
-    load_vectors(context);
+    switch_vectors(context);
 }
 
 void trap(struct registers *registers);
@@ -315,7 +319,6 @@ void trap(struct registers *registers)
         panic("a trap in the kernel");
     }
     struct context *context = turn_of(current);
-    save_vectors(context);
     context->registers = *registers;
     if (vector == 0x80) {
         system_call(context, begin);

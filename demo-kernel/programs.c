@@ -354,6 +354,7 @@ static void free_all(void)
 void noisy(uint64_t seed);
 void noisy(uint64_t seed)
 {
+    say("vector registers not zero at its start:", vectors_not_zero());
     call(CALL_CATCH, (uint64_t)in_vain, 0, 0);
     say("frames reached at its start:", frames_reached());
     struct load load = {.state = seed | 1u << 30};
