@@ -234,9 +234,9 @@ static void open_elsewhere(void)
     if (opened < 0 || close(opened) || unlink("/elsewhere/partmem") || umount("/elsewhere")) die("it cannot be unmounted");
 }
 
-static void load(const char *words)
+static void load(const char *path, const char *words)
 {
-    const int module = open(strncmp(words, "mistake=", 8) ? "/partmem.ko" : "/mistakes.ko", O_RDONLY);
+    const int module = open(path, O_RDONLY);
     if (syscall(SYS_finit_module, module, words, 0)) die("the module is not loaded");
     close(module);
     open_elsewhere();
@@ -347,10 +347,10 @@ static void send_lines(void)
     if (ftruncate(1, 0)) die("cannot empty /lines");
 }
 
-static void run(const char *name, const char *parameters, void (*world)(void))
+static void run(const char *name, const char *module, const char *parameters, void (*world)(void))
 {
     printf("== %s\n", name);
-    load(parameters);
+    load(module, parameters);
     world();
     unload();
     send_lines();
@@ -366,14 +366,15 @@ int main(void)
     const int console = open("/dev/console", O_RDWR), lines = open("/lines", O_RDWR | O_CREAT | O_APPEND, 0600);
     dup2(console, 2), dup2(lines, 1), setvbuf(stdout, NULL, _IOLBF, 0);
     if (getpid() != 1 || lines < 0 || ioperm(PORT, 1, 1)) die("not the init of linux/run");
-    run("quiet", "", run_quiet);
-    run("noisy", "", run_noisy);
-    run("perl", "order=6 superblocks=40 partitions=1", run_perl);
-    run("hostile", "", run_hostile);
-    run("no unmapping at a free", "mistake=1", run_noisy);
-    run("no unmapping at a move", "mistake=2", run_noisy);
-    run("no unmapping at a reset", "mistake=3", run_noisy);
-    run("an address that was not lent", "mistake=4", run_noisy);
+    run("quiet", "/partmem.ko", "", run_quiet);
+    run("noisy", "/partmem.ko", "", run_noisy);
+    run("own thunks", "/thunks.ko", "", run_noisy);
+    run("perl", "/partmem.ko", "order=6 superblocks=40 partitions=1", run_perl);
+    run("hostile", "/partmem.ko", "", run_hostile);
+    run("no unmapping at a free", "/mistakes.ko", "mistake=1", run_noisy);
+    run("no unmapping at a move", "/mistakes.ko", "mistake=2", run_noisy);
+    run("no unmapping at a reset", "/mistakes.ko", "mistake=3", run_noisy);
+    run("an address that was not lent", "/mistakes.ko", "mistake=4", run_noisy);
     printf("== end\n");
     send_lines();
     reboot(RB_POWER_OFF);
