@@ -1,6 +1,6 @@
 /* /init of the virtual machine that linux/run boots. Partition 0 does the same in quiet and in noisy worlds, and prints the
  * results of its calls and what it finds. linux/run compares these lines. In a noisy world partition 1 meanwhile allocates, frees
- * and stores at random, slots of both are moved, and partition 1 is reset. Perl runs in a world of its own, with its heap in a
+ * and stores at random, slots of both are moved, and partition 1 is reset. Perl runs in worlds of its own, with its heap in a
  * partition whose slots are moved. The output goes to port 0xe9. */
 #include "init.h"
 
@@ -312,7 +312,7 @@ static void run_world(bool is_noisy)
     printf("# ended with status %d, %u moves, %u resets\n", status, noise.moves, noise.resets);
 }
 
-static void run_perl(void)
+static void run_perl(const char *script)
 {
     char number[20];
     unsigned moves = 0;
@@ -324,7 +324,7 @@ static void run_perl(void)
     if (!perl) {
         close(file);
         setenv("PARTMEM_FILE", number, 1), setenv("LD_PRELOAD", "/heap.so", 1), setenv("PERL_HASH_SEED", "0", 1);
-        execl("/usr/bin/perl", "perl", "/words.pl", NULL);
+        execl("/usr/bin/perl", "perl", script, NULL);
         die("perl");
     }
     close(bound);
@@ -358,6 +358,8 @@ static void run(const char *name, const char *module, const char *parameters, vo
 
 static void run_quiet(void) { run_world(false); }
 static void run_noisy(void) { run_world(true); }
+static void run_words(void) { run_perl("/words.pl"); }
+static void run_limits(void) { run_perl("/limits.pl"); }
 
 int main(void)
 {
@@ -369,7 +371,8 @@ int main(void)
     run("quiet", "/partmem.ko", "", run_quiet);
     run("noisy", "/partmem.ko", "", run_noisy);
     run("own thunks", "/thunks.ko", "", run_noisy);
-    run("perl", "/partmem.ko", "order=6 superblocks=40 partitions=1", run_perl);
+    run("perl", "/partmem.ko", "order=6 superblocks=40 partitions=1", run_words);
+    run("limits", "/partmem.ko", "order=6 superblocks=40 partitions=1", run_limits);
     run("hostile", "/partmem.ko", "", run_hostile);
     run("no unmapping at a free", "/mistakes.ko", "mistake=1", run_noisy);
     run("no unmapping at a move", "/mistakes.ko", "mistake=2", run_noisy);
