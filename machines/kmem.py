@@ -10,7 +10,6 @@ EVENT = re.compile(r' (\d+(?:\.\d+)?): +(?:kmem:)?'
 FIELD = re.compile(r'\b(\w+)=(\S*)', re.ASCII)
 LOST = re.compile(r'LOST \d+ EVENTS|EVENTS DROPPED|PERF_RECORD_LOST')
 WRITTEN = re.compile(r'# entries-in-buffer/entries-written: (\d+)/(\d+)')
-MARKS_OF_SLABS = {'__GFP_NOWARN', '__GFP_NORETRY'}
 GREATEST_KMALLOC_IN_SLABS = 8192
 DECIMAL, HEX = re.compile('[0-9]{1,20}'), re.compile('(0x)?[0-9a-fA-F]{1,16}')
 MAX_ORDER = 13             # Linux has page blocks up to order 10, and up to order 13 with frames of 64 KiB
@@ -45,10 +44,11 @@ def time_of(text):
 
 
 def is_of_slabs(frames, flags):
-    """Returns whether these pages are for a slab. For a slab, the slab allocator adds MARKS_OF_SLABS to the flags of its caller,
-    and __GFP_COMP if the slab has more than one page."""
+    """Returns whether these pages are for a slab. For a slab, the slab allocator adds __GFP_NORETRY and __GFP_NOWARN to the flags
+    of its caller, and __GFP_COMP if the slab has more than one page. In Linux 6.12 GFP_NOWAIT contains __GFP_NOWARN."""
     flags = set(flags.split('|'))
-    return MARKS_OF_SLABS <= flags and (frames == 1 or '__GFP_COMP' in flags)
+    is_silent = '__GFP_NOWARN' in flags or 'GFP_NOWAIT' in flags
+    return is_silent and '__GFP_NORETRY' in flags and (frames == 1 or '__GFP_COMP' in flags)
 
 
 def pages(fields):
