@@ -31,9 +31,12 @@ class Kernel(NamedTuple):
     last: str
     # Maps the name and the flags of a section to those that it gets in the object.
     renamed: dict[str, str]
+    # Flags of clang as the assembler of the object.
+    of_assembler: tuple[str, ...] = ()
 
 
-BARE = ["-mno-red-zone", "-mgeneral-regs-only", "-fno-function-sections", "-fno-data-sections", "-fno-addrsig"]
+FEW_SECTIONS = ["-fno-function-sections", "-fno-data-sections", "-fno-addrsig"]
+BARE = ["-mno-red-zone", "-mgeneral-regs-only", *FEW_SECTIONS]
 HARDENED = ["-mfunction-return=thunk-extern", "-mharden-sls=all", "-mretpoline", "-mretpoline-external-thunk"]
 HARDENED += ["-fcf-protection=branch", "-fno-jump-tables"]
 # Functions begin with endbr64. A call through a pointer in r8 to r15 has a prefix, so that Linux can replace it in place.

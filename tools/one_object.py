@@ -8,7 +8,7 @@ import re
 import subprocess
 import tempfile
 
-from building import TARGET, compile_functions_in_c, declared, kit, read, write
+from building import X86_64, compile_functions_in_c, declared, kit, read, write
 
 # What is left out: the entries for tracing that clang writes with the padding of functions, and, in all units except the first,
 # the notes with properties.
@@ -43,14 +43,14 @@ def joined(texts, renamed):
     return "".join(lines)
 
 
-def make_archive(module, kernel, to):
+def make_archive(module, kernel, to, target=X86_64):
     """Writes to `to` the archive of one object: a module's assembly, in the file `module`, and the functions in C, except
     partmem_boot, which needs the C library."""
-    clang = f"{kit()}/toolchain/bin/clang"
     with tempfile.TemporaryDirectory(prefix="object-") as work:
-        units = compile_functions_in_c(work, ["-S", *kernel.flags, *kernel.flags_for_c], ["boot.c"])
+        units = compile_functions_in_c(work, target, ["-S", *kernel.flags, *kernel.flags_for_c], ["boot.c"])
         write(f"{work}/joined.s", joined([read(module), *(read(f"{work}/{unit}") for unit in units)], kernel.renamed))
-        subprocess.run([clang, f"--target={TARGET}", "-c", "joined.s", "-o", "partmem.o"], cwd=work, check=True)
+        assembler = [f"{kit()}/toolchain/bin/clang", f"--target={target.triple}", *kernel.of_assembler]
+        subprocess.run([*assembler, "-c", "joined.s", "-o", "partmem.o"], cwd=work, check=True)
         if os.path.exists(to):
             os.remove(to)
         subprocess.run([f"{kit()}/toolchain/bin/llvm-ar", "rcsD", to, "partmem.o"], cwd=work, check=True)
