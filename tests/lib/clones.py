@@ -5,7 +5,8 @@ import subprocess
 
 TOP = os.path.dirname(os.path.dirname(os.path.dirname(os.path.abspath(__file__))))
 PROGRAMS = ["partmem", "framemap", "partcheck"]
-ARCHIVES = [f"out/lib/libpartmem{kind}.a" for kind in ("", "_kernel", "_linux", "_watched")]
+KINDS = ["", "_kernel", "_linux", "_watched", "_arm64", "_kernel_arm64", "_riscv64", "_kernel_riscv64"]
+ARCHIVES = [f"out/lib/libpartmem{kind}.a" for kind in KINDS]
 MODULE = "out/lib/kernel/module.ll"
 BUILT = [*(f"crates/{name}/out/{name}" for name in PROGRAMS), *ARCHIVES, MODULE]
 # Stands in for the command `rt` if the programs are built: `run` runs the built program, `lib` and `all` do nothing, and
@@ -25,7 +26,7 @@ for name in "$@"; do
         library)
             cp out/lib/libpartmem.a out/libpartmem-unproved.a
             cp out/lib/libpartmem_watched.a out/libpartmem_watched-unproved.a ;;
-        linux | kernel) cp "out/lib/libpartmem_$name.a" "out/libpartmem_$name-unproved.a" ;;
+        linux | *kernel* | arm64 | riscv64) cp "out/lib/libpartmem_$name.a" "out/libpartmem_$name-unproved.a" ;;
         *) cp "crates/$name/out/$name" "out/$name-unproved" ;;
     esac
 done
@@ -39,7 +40,7 @@ for name in "$@"; do
         [ -e BUILDS/$1 ] || { tools/unproved-itself "$1" && mkdir BUILDS/$1.new
             case $1 in
                 library) cp out/libpartmem-unproved.a out/libpartmem_watched-unproved.a BUILDS/$1.new ;;
-                linux | kernel) cp "out/libpartmem_$1-unproved.a" BUILDS/$1.new ;;
+                linux | *kernel* | arm64 | riscv64) cp "out/libpartmem_$1-unproved.a" BUILDS/$1.new ;;
                 *) cp "out/$1-unproved" BUILDS/$1.new ;;
             esac
             mv BUILDS/$1.new BUILDS/$1; }
