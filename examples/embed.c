@@ -1,5 +1,6 @@
 /* A freestanding program: two static arrays are the memory of a machine. The library needs memcpy, memmove and memset, and
- * nothing else. What comes after "The board" is for x86-64 Linux without a C library. A kernel or a board has other code there.
+ * nothing else. What comes after "The board" is for x86-64 Linux without a C library. A kernel or a board has other code there:
+ * virt.c is a board for AArch64 and RISC-V.
  *
  *     gcc -std=c11 -O2 -ffreestanding -nostdlib -static examples/embed.c -lpartmem -o embed
  */
@@ -21,7 +22,7 @@ struct message {
 static partmem_cache messages;
 static uint32_t last_message = PARTMEM_NO_PLACE;
 
-static void put(const char *text), stop(int status);
+void put(const char *text), stop(int status);
 
 static void must(partmem_status status)
 {
@@ -66,15 +67,17 @@ void start(void)
 
 /* ---- The board ---------------------------------------------------------------------------------------------------------- */
 
+#ifdef __x86_64__
+
 __asm__(".globl _start\n_start: call start\n"); /* the stack is aligned to 16 bytes */
 
-static void put(const char *text)
+void put(const char *text)
 {
     for (long call = 1; *text; text++, call = 1) /* write */
         __asm__ volatile("syscall" : "+a"(call) : "D"(1), "S"(text), "d"(1) : "rcx", "r11", "memory");
 }
 
-static void stop(int status)
+void stop(int status)
 {
     for (long call = 60;;) __asm__ volatile("syscall" : "+a"(call) : "D"(status) : "rcx", "r11"); /* exit */
 }
@@ -99,3 +102,5 @@ void *memmove(void *to, const void *from, size_t bytes)
     for (volatile unsigned char *at = to; bytes-- > 0;) at[bytes] = ((const unsigned char *)from)[bytes];
     return to;
 }
+
+#endif
