@@ -13,7 +13,7 @@ OVER_PROGRAMS := hostile-bytes refused-memory instructions conformance plain-mac
     command-lines partcheck examples
 #   the library for C, and some of them the programs too:
 OVER_LIBRARY := same-path kernel-archives objtool in-place heap watched cpp use-from-c pasted demo-kernel linux rust \
-    costs stack install browser-page
+    other-targets costs stack install browser-page
 CHECKS := $(addprefix check-,$(FROM_SOURCES) $(OVER_PROGRAMS) $(OVER_LIBRARY))
 .PHONY: list list-tests try unproved quick prove test check tools proved library browser install uninstall release bench \
     soak $(CHECKS)

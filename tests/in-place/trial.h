@@ -28,7 +28,9 @@ static inline bool rarely(uint32_t times) { return any(times) == 0; }
 static inline void boot(partmem_machine *machine, uint32_t order, uint32_t superblocks, uint32_t tenants)
 {
     const partmem_config config = {order, superblocks, tenants};
+#ifdef __x86_64__
     MUST(__builtin_cpu_supports("sse4.2") && __builtin_cpu_supports("popcnt"));
+#endif
     MUST(partmem_boot(machine, &config) == PARTMEM_DONE);
 }
 
