@@ -64,6 +64,9 @@
  *
  * PROCESSOR. x86-64-v2, with the System V calling convention. On an older processor a call may end in an illegal instruction.
  * With gcc and clang `__builtin_cpu_supports("sse4.2") && __builtin_cpu_supports("popcnt")` tests for it.
+ * Archives whose names end in _arm64 and _riscv64 are for AArch64 (Armv8-A) and 64-bit RISC-V, both little-endian. What is PROVED
+ * is the source, as checked for x86-64. These archives are compiled from the module that the toolchain wrote for x86-64. It is
+ * TESTED under QEMU that they reply as the proved program does. The step is neither proved nor vouched for by the toolchain.
  */
 #ifndef PARTMEM_H
 #define PARTMEM_H
@@ -528,10 +531,13 @@ PARTMEM_CHECKED partmem_status partmem_line(partmem_machine *machine, const char
  *     memmove and memset take. No interrupt uses this stack, since the library also uses the 128 bytes below its stack pointer.
  *     [Registers leak from tenant to tenant; the stack overflows.] libpartmem_kernel.a and libpartmem_linux.a require of this
  *     only the direction flag and the stack. Interrupts may use the same stack, if it has space for both.
+ *     libpartmem_kernel_arm64.a and libpartmem_kernel_riscv64.a require only that stack, aligned to 16 bytes as their calling
+ *     conventions say.
  * 10. After the end. Whoever uses the memory after partmem_end, or after a crash, clears it first. [It reads the tenants'
  *     bytes.]
  * 11. Mapping. Page tables map only page blocks, as partmem_alloc and partmem_lend_block return them. [An object of 4096 bytes
- *     fills a frame. Nothing unmaps it at the give, and the user keeps a frame that later belongs to another tenant.]
+ *     fills a frame. Nothing unmaps it at the give, and the user keeps a frame that later belongs to another tenant.] A page of 16
+ *     or 64 KiB is mapped only if it lies in one page block: RAM begins at such a page, superblocks and blocks are as large.
  * 12. Unmapping. Before a free, reset, move or end, not after it, pages are unmapped and flushed on every processor, and devices
  *     stopped. [In between, the tenant uses memory of another.]
  * 13. Reused numbers. A reset does not revoke the handles of a client. If a tenant number passes to a new client, handles carry
