@@ -11,7 +11,18 @@
  * The tenant that is passed always exists. The length of a write is 1 to MAX_BYTES, and the length of a pattern is 1 to
  * MAX_PATTERN. All other numbers may be any 32-bit numbers. The refusals of a function are listed in the order in which it has
  * to test them. A function that refuses changes nothing and returns the first refusal that applies. Otherwise it stores its
- * results and returns DONE. */
+ * results and returns DONE.
+ *
+ * Rules that are easily missed:
+ *
+ * - A page block reads as zero where its tenant has left nothing. So a free frame can have no links or headers, unless they are
+ *   zeroed when it is allocated.
+ * - A frame that a slab leaves reads as zero, whatever the objects had.
+ * - NO_FRAMES comes only if no block would be free even without the tenant's empty slabs. So `alloc` and `take` free empty slabs
+ *   of the tenant when they must.
+ * - A refused request does not free them: reports before and after it are the same.
+ * - An object reads as the pattern when its slab is made. An object that was given back and is taken again reads as it was left,
+ *   or as the pattern. */
 #ifndef PARTMEM_ADAPTER_H
 #define PARTMEM_ADAPTER_H
 
