@@ -7,7 +7,7 @@ JOBS ?= $(shell nproc)
 PROGRAMS := partmem framemap partcheck
 # The tests, by what they need. A script prints which tools are missing, and skips what needs them. tests/packages lists all tools.
 #   nothing that was built; refused-growths and pasted-first build without proofs:
-FROM_SOURCES := structure documents diagrams pages witnesses edits helps refused-growths pasted-first
+FROM_SOURCES := structure documents diagrams pages witnesses edits helps threads refused-growths pasted-first
 #   the programs that `rt ci` built:
 OVER_PROGRAMS := hostile-bytes refused-memory instructions conformance plain-machine pictures picture-page machines \
     command-lines partcheck examples

@@ -1,16 +1,13 @@
 /* Reads a trace from standard input, runs its lines on the allocator behind adapter.h, and writes the replies. docs/traces.md
  * describes the lines. */
 #include "adapter.h"
+#include "refusals.h"
 
 #include <stdio.h>
 #include <stdlib.h>
 #include <string.h>
 
 enum { MAX_LINE = 255, MAX_WORDS = 8, MAX_TENANTS = 64, MAX_SUPERBLOCKS = 256 };
-
-static const char *const REFUSALS[] = {
-    "", "NoFrames", "BadOrder", "NotABlock", "OutOfReach", "BadLength", "BadSize", "BadAlign", "NoCacheSlot",
-    "NoCache", "CacheInUse", "NotAnObject", "NoTenant", "PoolEmpty", "NoSlot", "SlotBusy"};
 
 static unsigned machine_order, superblocks, tenants;
 

@@ -3,6 +3,9 @@
  *
  *     cc -O2 -Iconformance -o mine conformance/adapter.c mine.c && conformance/check --pages ./mine
  *
+ * To test tenants at the same time, link them with threads.c instead. Then the functions that are called for a tenant, except
+ * grant, take_back, reset and move, have to allow calls for different tenants at once. One lock inside is fine.
+ *
  * A superblock has 2^order frames of FRAME_BYTES bytes. Slot u of a tenant has 2^order frames, of which the first is frame
  * u * 2^order. Each byte of a tenant has a number, its place: frame f has FRAME_BYTES places, of which the first is
  * f * FRAME_BYTES. A grant may choose any slot below 65536 that the tenant does not hold, if all its places are below
