@@ -16,6 +16,8 @@ TOP = os.path.dirname(os.path.dirname(os.path.dirname(os.path.abspath(__file__))
 # How many loads are run without options, how many are run with --long, and how many are run at a time at most.
 LOADS, LONG_LOADS, MAX_JOBS = 300, 8, 256
 INFINITE = float('inf')
+# The commands that --without can leave out: those of tenants, and one of the administrator.
+MAY_BE_WITHOUT = *OF_TENANT, 'move'
 # Options that say which loads are run, and how. All other options are part of the test, and are repeated to run a load again.
 WHICH = 'loads', 'load', 'seed', 'trace', 'save', 'json', 'junit', 'jobs'
 
@@ -60,8 +62,8 @@ def parser_of(description):
     add('program', metavar='PROGRAM', help='the program to test: a file, or a command of PATH')
     add('arguments', metavar='ARGUMENT', nargs=argparse.REMAINDER, help='the first arguments of PROGRAM').required = False
     add('--pages', action='store_true', help=f'leave out caches, the commands {", ".join(OF_CACHES)}')
-    add('--without', action='append', default=[], metavar='COMMAND', choices=OF_TENANT,
-        help=f'leave out a command of tenants: {", ".join(OF_TENANT)}; can be given more than once')
+    add('--without', action='append', default=[], metavar='COMMAND', choices=MAY_BE_WITHOUT,
+        help=f'leave out a command: {", ".join(MAY_BE_WITHOUT)}; can be given more than once')
     add('--exact', action='store_true', help='compare the replies with those of partmem too, byte for byte')
     nouns = 'of this order', 'with this number of superblocks', 'with this number of tenants'
     for name, (least, most), noun in zip(Sizes._fields, LIMITS, nouns):
