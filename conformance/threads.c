@@ -251,6 +251,7 @@ static const struct command {
                 {"destroy", 2, call_destroy, 1, false, "destroyed %u"},
                 {"reap", 2, call_reap, 0, false, "reaped %u"},
                 {"report", 1, call_report, 0, false, "a report with the sum %u"}};
+/* The sums of `often`, of the first four commands and of all. */
 enum { OF_PAGES = 60, OF_ALL = 109 };
 
 /* Draws a command. While memory is filled, half of the frees and gives become the command before them. While it is drained, half
@@ -347,6 +348,7 @@ static void run(enum mode mode, unsigned tenant, uint32_t number, struct record 
         run_in_turn(lists);
     else
         run_threads(mode == ALONE ? &lists[tenant] : lists, mode == ALONE ? 1 : machine.tenants);
+    free(lists);
 }
 
 static unsigned made_by(const struct record *records) {
