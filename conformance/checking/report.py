@@ -20,6 +20,8 @@ LIBRARY = 'backtrace_rs|panicking|backtrace|sys|fmt|io|option|result|slice|ops|v
 OF_RUST = re.compile(rf'\s+\d+: .*(rust_begin_unwind|(core|std|alloc)(\[\w+\])?::({LIBRARY})\b)')
 PLACE = re.compile(r'\s+at ')
 BACKTRACE = 'stack backtrace:'
+# If more than MAX_LINES lines show a finding, the report has the first FIRST_LINES and the last LAST_LINES of them.
+MAX_LINES, FIRST_LINES, LAST_LINES = 400, 20, 40
 # The refusals that commands of tenants may get, and those that commands of the administrator may get.
 REFUSALS = {'alloc': ['NoFrames', 'BadOrder'], 'free': ['NotABlock'], 'read': ['OutOfReach', 'BadLength'],
             'write': ['OutOfReach'], 'cache': ['BadSize', 'BadAlign', 'NoCacheSlot'], 'take': ['NoCache', 'NoFrames'],
@@ -125,8 +127,12 @@ def report_of(name, case, whole=None):
     name = f'load {name}' if isinstance(name, int) else f'trace {visible(name)}'
     lines = [f'{name} {"makes the program fail" if is_failure else "breaks a promise"}; {counted(count, "line")} '
              f'{"shows" if count == 1 else "show"} it, of {" ".join(words_of(case.run.sizes))}:', '']
-    for line, replies in case.run.exchanges:
-        lines += [visible(line), *(f'    {visible(reply)}' for reply in replies)]
+    hidden = range(FIRST_LINES, count - LAST_LINES) if count > MAX_LINES else range(0)
+    for at, (line, replies) in enumerate(case.run.exchanges):
+        if at not in hidden:
+            lines += [visible(line), *(f'    {visible(reply)}' for reply in replies)]
+        elif at == hidden[0]:
+            lines.append(f'.. {counted(len(hidden), "line")} more, which --save FILE writes ..')
     return [*lines, '', *said_of(case.finding, whole or case.finding)]
 
 
