@@ -2,9 +2,10 @@
 import collections
 from typing import NamedTuple, Optional
 
+from .heavy import Planner
 from .judge import Case, Judge
 from .maker import OF_CACHES, Maker, Phase
-from .plans import ALL, Planner
+from .plans import ALL
 from .runs import Run, is_own, naming
 from .talk import Programs
 from .words import Sizes
@@ -56,8 +57,8 @@ def load(options, number):
     reached = reached_by(run)
     if case:
         return Load(number, reached, case)
-    tenant = planner.rng.choice(run.speakers() or [0])
-    case = judge.alone(run, tenant)
+    tenant, *others = dict.fromkeys(plan.compared) or [planner.rng.choice(run.speakers() or [0])]
+    case = next(filter(None, (judge.alone(run, each) for each in (tenant, *others))), None)
     if case:
         return Load(number, reached, judge.steady(case))
     noisy = between_noise(judge.programs, run, tenant, maker)
@@ -71,17 +72,19 @@ def load(options, number):
 
 def say_phase(run, maker, phase, at_once):
     """Sends the lines of a phase. Stops when all are sent, when the goal is reached, when the program fails, or when everything
-    is full or empty as `phase.until` says."""
+    is full or empty, or the goal gets no nearer, as `phase.until` says."""
     left, world = phase.lines, run.world
     phase = phase._replace(slot=world.tenants[phase.tenants[0]].slot_of_rank(phase.rank))
     while left > 0 and not run.failure and maker.commands(phase):
-        count = min(left, at_once, most_lines(world, phase))
+        most = most_lines(world, phase)
+        count = min(left, at_once, most)
         if count == 0:
             return
         before = refused_for_want(world)
         run.say(maker.lines(world, phase, count))
         left -= count
-        if phase.until == 'full' and FULL * (refused_for_want(world) - before) > count:
+        is_full = phase.until == 'full' and FULL * (refused_for_want(world) - before) > count
+        if is_full or phase.until == 'stuck' and most_lines(world, phase) >= most:
             return
 
 

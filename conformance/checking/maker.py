@@ -26,14 +26,16 @@ MAX_CACHES = 32
 
 class Goal(NamedTuple):
     """A number of frames, blocks, objects or slots that a tenant has to reach exactly: `count`, and in addition as many objects
-    as fit into `slabs` slabs."""
+    as fit into `slabs` slabs. If `is_most`, fewer are enough."""
     noun: str
     count: int = 0
     slabs: int = 0
+    is_most: bool = False
 
     def away(self, tenant, order, slot):
         """Returns how far a tenant is from the goal, above or below it."""
-        return abs(self.count + self.slabs * tenant.of_a_slab() - tenant.count(self.noun, order, slot))
+        more = tenant.count(self.noun, order, slot) - self.count - self.slabs * tenant.of_a_slab()
+        return max(more, 0) if self.is_most else abs(more)
 
 
 class Phase(NamedTuple):
@@ -44,7 +46,8 @@ class Phase(NamedTuple):
     orders: list
     sizes: list = OBJECTS
     alignments: list = ALIGNMENTS
-    until: str = ''                                             # it ends when everything is `full` or `empty`, if this says so
+    until: str = ''                                             # it ends when everything is `full` or `empty`, or when its lines
+                                                                # bring the goal no nearer, if this is `stuck`
     goal: Optional[Goal] = None                                 # it also ends when its first tenant reaches this
     is_plain: bool = False                                      # no number is wrong on purpose
     rank: Optional[int] = None                                  # the rank of the only slot used: 0 is the lowest, -1 the highest

@@ -33,17 +33,26 @@ ALONE = [(8, 1), (8, 16), (8, MAX_SUPERBLOCKS), (8, MAX_SUPERBLOCKS), (7, MAX_SU
 RANKS = 0, 1, 31, 32, 62, 63, 64, 65, 127, 128, 254, 255, -1
 
 
-# The kinds of twelve loads. About how long a load of each kind takes: its mean number of lines with those of the noisy run, and
-# 500 more for the start of the programs.
+# The kinds of twelve loads, and those of twelve heavy loads. Heavy loads are numbered from FIRST_HEAVY, so that their kinds
+# change no line of other loads. A run has one of them after each BETWEEN_HEAVY others.
 KINDS = ('small', 'alone', 'slabs', 'life', 'small', 'slots', 'small', 'alone', 'objects', 'medium', 'one_cache', 'wide')
+HEAVY = ('many_blocks', 'many_caches', 'rounds', 'many_slabs', 'many_objects', 'many_blocks', 'many_caches', 'many_frees',
+         'many_blocks', 'many_objects', 'rounds', 'many_blocks')
+FIRST_HEAVY, BETWEEN_HEAVY = 1_000_000, 24
+# Kinds of loads that need caches. A program without caches gets small loads instead.
+WITH_CACHES = 'slabs', 'objects', 'one_cache', 'many_caches', 'many_slabs', 'many_objects'
+# About how long a load of each kind takes: its mean number of lines with those of the noisy run, and 500 more for the start of
+# the programs. A line of a heavy load takes less time, so for a heavy load this is how many lines of others take as long.
 COSTS = {'small': 800, 'alone': 5500, 'slabs': 10000, 'life': 12500, 'slots': 4500, 'objects': 6000, 'medium': 3400,
-         'one_cache': 8800, 'wide': 2500}
+         'one_cache': 8800, 'wide': 2500, 'many_blocks': 4000, 'many_caches': 8000, 'rounds': 12000, 'many_slabs': 15000,
+         'many_objects': 4500, 'many_frees': 25000}
 
 
 class Plan(NamedTuple):
     sizes: Sizes
     phases: list
     at_once: int = AT_ONCE
+    compared: tuple = ()                                        # the tenants whose own lists are run again; if none, one is drawn
 
 
 def granting(sizes, tenants):
@@ -244,6 +253,13 @@ class Planner:
 
 
 def kind_of(number, with_caches):
-    """Returns the kind of a load, which is a function of Planner."""
-    kind = KINDS[number % len(KINDS)]
-    return 'small' if kind in ('slabs', 'objects', 'one_cache') and not with_caches else kind
+    """Returns the kind of a load, which is a function of Planner or of heavy.Planner."""
+    kinds = KINDS if number < FIRST_HEAVY else HEAVY
+    kind = kinds[(number - FIRST_HEAVY if number >= FIRST_HEAVY else number) % len(kinds)]
+    return 'small' if kind in WITH_CACHES and not with_caches else kind
+
+
+def numbers_of(count):
+    """Returns the numbers of the loads of a run of `count` loads."""
+    heavy = [at // (BETWEEN_HEAVY + 1) for at in range(count)]
+    return [FIRST_HEAVY + before if (at + 1) % (BETWEEN_HEAVY + 1) == 0 else at - before for at, before in enumerate(heavy)]

@@ -10,6 +10,7 @@ class Fault(NamedTuple):
     promises: str                                               # one of these is broken; `Failed`: the program fails
     changes: list                                               # texts that occur just once, and their replacements
     most: int = FEW                                             # the most lines that the shortened load may have
+    by: str = ''                                                # the kind of the heavy loads that find it, or `--long`
 
 
 LISTS = [
@@ -401,6 +402,138 @@ SLABS = [
          '    static int made;\n'
          '    if (++made > 50)\n'
          '        return best;\n')], 400),
+]
+
+# Faults that only heavy loads or those of --long show: limits of all tenants together, counts above 1,000, and what comes late in
+# a life.
+COUNTED = ('static bool *owned;\n', 'static bool *owned;\nstatic unsigned live, counts[64];\n')
+FREED, TAKEN = '    *order = of->pages[frame].order;\n', '    of->pages[*frame].kind = TAKEN;\n'
+BLOCKS_OF_ALL = [COUNTED, (FREED, FREED + '    live--;\n'), (TAKEN, TAKEN + '    live++;\n')]
+LARGER = '        if (order < top && of->first[order + 1] != NONE)\n            from++;\n'
+HEAVY_LISTS = [
+    Fault('of all', 'all tenants together have at most 4,096 blocks', 'Room', [
+        *BLOCKS_OF_ALL,
+        ('    if (from > top)',
+         '    if (from > top || live >= 4096)')], by='many_blocks'),
+    Fault('of all', 'a block is from a larger one if all tenants together have 4,096', 'Alone', [
+        *BLOCKS_OF_ALL,
+        ('    unsigned from = order;\n',
+         '    unsigned from = order;\n    if (live >= 4096)\n' + LARGER)], by='many_blocks'),
+    *(Fault('overflow', f'the blocks of a tenant are counted in {bits} bits', 'Refusals', [
+        COUNTED,
+        (FREED,
+         f'{FREED}    if (counts[tenant] == 0) return NOT_A_BLOCK;\n    counts[tenant]--;\n'),
+        (TAKEN,
+         f'{TAKEN}    counts[tenant] = (counts[tenant] + 1) % (1u << {bits});\n'),
+        ('    *superblocks = 0;\n',
+         '    *superblocks = 0;\n    counts[tenant] = 0;\n')], by='--long' if bits > 12 else 'many_blocks')
+      for bits in (11, 12, 13, 15)),
+    Fault('late', 'allocation 10,000 is refused', 'Room', [
+        ('    if (from > top)',
+         '    static unsigned calls;\n    if (from > top || ++calls % 10000 == 0)')], by='rounds'),
+    Fault('late', 'allocation 10,000 of all tenants is from a larger block', 'Alone', [
+        ('    unsigned from = order;\n',
+         '    unsigned from = order;\n    static unsigned calls;\n    if (++calls % 10000 == 0)\n' + LARGER)], by='rounds'),
+    Fault('late', 'free 10,000 loses its block', 'Room', [
+        ('    push(of, frame, joined);\n',
+         '    static unsigned calls;\n    if (++calls % 10000 != 0)\n        push(of, frame, joined);\n')], by='rounds'),
+    Fault('late', 'free 65,536 is refused', 'Refusals', [
+        (FREED,
+         f'{FREED}    static uint16_t calls;\n    if (++calls == 0)\n        return NOT_A_BLOCK;\n')], by='many_frees'),
+    Fault('late', 'free 65,536 loses its block', 'Room', [
+        ('    push(of, frame, joined);\n',
+         '    static uint16_t calls;\n    if (++calls != 0)\n        push(of, frame, joined);\n')], by='many_frees'),
+]
+
+GIVEN_BACK = '    slab->live--;\n'
+EMPTY_OF_ALL = [
+    ('static bool *owned;\n',
+     'static bool *owned;\n'
+     'static unsigned how_many;\n'),
+    ('    all = calloc(tenants, sizeof *all);\n',
+     '    all = calloc(tenants, sizeof *all);\n'
+     '    how_many = tenants;\n'),
+    ('static enum reply give(',
+     'static unsigned empty_of_all(void) {\n'
+     '    unsigned empty = 0;\n'
+     '    for (struct tenant *of = all; of < all + how_many; of++)\n'
+     '        for (struct cache *cache = of->caches; cache < of->caches + MAX_CACHES; cache++)\n'
+     '            for (unsigned at = 0; at < cache->count; at++)\n'
+     '                empty += cache->slabs[at].live == 0;\n'
+     '    return empty;\n'
+     '}\n'
+     'static enum reply give(')]
+CACHES_OF_ALL = [
+    ('static bool *owned;\n',
+     'static bool *owned;\n'
+     'static unsigned made;\n'),
+    ('    cache += number;\n',
+     '    cache += number;\n'
+     '    made++;\n'),
+    ('    *freed = drop_empty(&all[tenant], cache);\n',
+     '    *freed = drop_empty(&all[tenant], cache);\n'
+     '    made--;\n')]
+HEAVY_SLABS = [
+    Fault('of all', 'all tenants together have at most 512 caches', 'Refusals', [
+        *CACHES_OF_ALL,
+        ('    if (number == MAX_CACHES)',
+         '    if (number == MAX_CACHES || made >= 512)')], by='many_caches'),
+    Fault('of all', 'a cache has number 1 if all tenants together have 512', 'Alone', [
+        *CACHES_OF_ALL,
+        ('    unsigned number = 0;\n',
+         '    unsigned number = made >= 512 && !cache[1].is_used;\n')], by='many_caches'),
+    Fault('of all', 'all tenants together have at most 2,048 slabs', 'Room', [
+        ('static bool *owned;\n',
+         'static bool *owned;\n'
+         'static unsigned slabs;\n'),
+        ('    if (!get_block(tenant, cache->order, SLAB, &first))',
+         '    if (slabs >= 2048 || !get_block(tenant, cache->order, SLAB, &first))'),
+        ('    best = &cache->slabs[cache->count++];\n',
+         '    best = &cache->slabs[cache->count++];\n'
+         '    slabs++;\n'),
+        ('    cache->slabs[at] = cache->slabs[--cache->count];\n',
+         '    cache->slabs[at] = cache->slabs[--cache->count];\n'
+         '    slabs--;\n')], by='many_caches'),
+    *(Fault('of all', f'a slab that gets empty is freed if all tenants together have {most} empty', 'Alone Still Report', [
+        *EMPTY_OF_ALL,
+        (GIVEN_BACK,
+         f'{GIVEN_BACK}    if (slab->live == 0 && empty_of_all() > {most})\n'
+         '        drop_slab(&all[tenant], cache, (unsigned)(slab - cache->slabs));\n')],
+            by='many_caches') for most in (100, 400)),
+    Fault('of all', 'all empty slabs are freed if all tenants together have 400', 'Alone Still Report', [
+        *EMPTY_OF_ALL,
+        (GIVEN_BACK,
+         f'{GIVEN_BACK}    unsigned freed;\n'
+         '    if (slab->live == 0 && empty_of_all() > 400)\n'
+         '        for (unsigned other = 0; other < how_many; other++)\n'
+         '            drop_all_empty(other, &freed);\n')], by='many_caches'),
+    *(Fault('overflow', f'the objects of a cache are counted in {bits} bits', 'Refusals', [
+        ('    for (unsigned at = 0; at < cache->count; at++)\n'
+         '        if (cache->slabs[at].live > 0)\n'
+         '            return CACHE_IN_USE;\n',
+         '    unsigned live = 0;\n'
+         '    for (unsigned at = 0; at < cache->count; at++)\n'
+         '        live += cache->slabs[at].live;\n'
+         f'    if (live % (1u << {bits}) > 0)\n'
+         '        return CACHE_IN_USE;\n')], by='many_objects') for bits in (10, 11, 12)),
+    *(Fault('overflow', f'the slabs of a cache are counted in {bits} bits', 'Refusals Failed Bytes Objects Report Room', [
+        ('length, count;\n',
+         'length;\n'
+         f'    unsigned count : {bits};\n')], by='many_slabs') for bits in (10, 11, 12)),
+    Fault('overflow', 'a report has the objects of a cache in 12 bits', 'Report', [
+        ('            row->live += slab->live;\n',
+         '            row->live = (row->live + slab->live) % 4096;\n')], by='many_objects'),
+    Fault('reap', 'at most 1,000 slabs are freed at a time', 'Still', [
+        ('    for (unsigned at = cache->count; at > 0; at--)\n'
+         '        if (cache->slabs[at - 1].live == 0)\n',
+         '    for (unsigned at = cache->count; at > 0 && freed < 1000 << cache->order; at--)\n'
+         '        if (cache->slabs[at - 1].live == 0)\n')], by='many_slabs'),
+    Fault('late', 'take 10,000 is refused', 'Room', [
+        ('    while (slab->taken[at])\n',
+         '    static unsigned calls;\n'
+         '    if (++calls % 10000 == 0)\n'
+         '        return NO_FRAMES;\n'
+         '    while (slab->taken[at])\n')], by='many_slabs'),
 ]
 
 
