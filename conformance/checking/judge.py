@@ -58,7 +58,7 @@ class Judge:
 
     def __init__(self, options, programs):
         self.programs, self.exact = programs, options.exact
-        self.partmem, self.partcheck = options.partmem, options.partcheck
+        self.partmem, self.partcheck, self.kept = options.partmem, options.partcheck, None
 
     def judged(self, run):
         """Returns the run with what was found in it: a failure, a broken promise, or with --exact a difference from partmem.
@@ -99,9 +99,14 @@ class Judge:
         return status, told
 
     def broken_promise(self, run):
-        """Returns what partcheck finds in the replies, if a promise is broken."""
-        status, told = self.run_tool(self.partcheck, (ALLOWED, NOT_ALLOWED), run.sizes, run.trace(), run.text())
+        """Returns what partcheck finds in the replies, if a promise is broken. A run that is the same as the last one that kept
+        all promises is not judged again: if there is only one tenant, there is no noise."""
+        judged = run.sizes, run.trace(), run.text()
+        if judged == self.kept:
+            return None
+        status, told = self.run_tool(self.partcheck, (ALLOWED, NOT_ALLOWED), *judged)
         if status == ALLOWED:
+            self.kept = judged
             return None
         said = told.decode('utf-8', 'replace').strip()
         found = PROMISE.match(said)
