@@ -38,9 +38,9 @@ known_texts {reply_text = reply_text} IsSo asks tells so whole answers whole_is 
 
 -- If `shown` keeps its line and its reply, it still shows the finding. A property of a breach can be replaced by one that follows
 -- from it.
-pub still_shown : (w : Known) (finding : Finding) (trace_text reply_text : List ℕ) (old new : Shown) (Also So : List ℕ → List ℕ → Known → Type 0)
+pub still_shown : (w : Known) (finding : Finding) (trace_text reply_text : List ℕ) (old new : Shown) (Also So : Breach → List ℕ → List ℕ → Known → Type 0)
     → new.line ≡ old.line → new.reply ≡ old.reply
-    → ((breach : Breach) (line reply : List ℕ) (now : Known) → finding ≡ Broken breach → HasRead line reply old → Also line reply now → So line reply now)
+    → ((breach : Breach) (line reply : List ℕ) (now : Known) → finding ≡ Broken breach → HasRead line reply old → Also breach line reply now → So breach line reply now)
     → ShowsFinding w finding trace_text reply_text old Also → ShowsFinding w finding trace_text reply_text new So
 still_shown w (Kept lines) trace_text reply_text old new Also So line_is reply_is follows shows = tt
 still_shown w (Broken breach) trace_text reply_text old new Also So line_is reply_is follows (line, reply, now, is, read, also) = (

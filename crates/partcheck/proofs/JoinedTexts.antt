@@ -42,7 +42,7 @@ finding_kept : (finding : Finding) (shown : Shown) (tenants : ℕ) (a b c : Opti
     → AppendsFinding finding shown tenants a c
 finding_kept (Kept lines) shown tenants a b c appended kept = Appends-kept a b c (kept_text lines tenants) appended kept
 finding_kept (Broken breach) shown tenants a b c appended kept =
-    λ trace_text reply_text read. Appends-kept a b c (breach_text breach trace_text reply_text shown.taken) (appended trace_text reply_text read) kept
+    λ trace_text reply_text read. Appends-kept a b c (breach_text breach trace_text reply_text shown.reason) (appended trace_text reply_text read) kept
 
 pub finding_flushed : {E : Type 0} (finding : Finding) (shown : Shown) (tenants : ℕ) (a b c : Option (List ℕ)) (r : Result (Unit {0}) E)
     → AppendsFinding finding shown tenants a b → Keeps b c → OnOk r (AppendsFinding finding shown tenants a c)

@@ -1,3 +1,4 @@
 pub mod Settings
 pub mod Checked
+pub mod Reasons
 pub mod Telling

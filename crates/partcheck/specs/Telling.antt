@@ -6,14 +6,14 @@ use Rattle.std.specs.List.{concat, list_all}
 use Rattle.std.specs.Str.{bytes_eq}
 use Rattle.std.specs.Str.Lines.{strip_carriage_return}
 use Rattle.promise_core.specs.Names.{name_of_promise}
-use Rattle.promise_core.specs.declared.promise.Promise.{Promise}
 use Rattle.trace_check.specs.Checking.{HasRead}
 use Rattle.trace_check.specs.Reading.{without_line_feed}
 use Rattle.trace_check.specs.declared.finding.Breach.{Breach}
 use Rattle.trace_check.specs.declared.finding.Finding.{Finding}
 use Rattle.trace_check.specs.declared.shown.Shown.{Shown}
 use Rattle.trace_check.specs.declared.shown.TheConstants.{MAX_PART_BYTES, MAX_TEXT_BYTES}
-use Rattle.trace_check.specs.declared.taken.TakenFrame.{TakenFrame}
+use Rattle.trace_check.specs.declared.reason.Reason.{Reason}
+use Rattle.partcheck.specs.Reasons.{reason_text}
 
 -- the word `one` if the count is 1, and otherwise the word `several`
 abbrev pub counted_word : (one several : List ℕ) → ℕ → List ℕ
@@ -73,57 +73,17 @@ abbrev pub if_read : (List ℕ → List ℕ) → List ℕ → Option (List ℕ)
 if_read cut [] = None
 if_read cut (byte ∷ bytes) = Some (cut (byte ∷ bytes))
 
--- the words for what a promise requires
-abbrev pub words_of_promise : Promise → List ℕ
-words_of_promise Promise.Form = codes "a reply has the right addressee, and is a refusal or an answer to that command"
-words_of_promise Promise.Refusals = codes "the first refusal whose condition holds is the reply, and no other refusal comes"
-words_of_promise Promise.Room = codes "nothing is refused for lack of frames while it can be allocated"
-words_of_promise Promise.Busy = codes "a slot is busy only if a frame of it is taken, or if an empty slab may be in it"
-words_of_promise Promise.Blocks = codes "a block is aligned, lies in a held slot and overlaps nothing that is taken"
-words_of_promise Promise.Objects = codes "an object is aligned, lies in a slab of its cache and overlaps no live object"
-words_of_promise Promise.Layout = codes "a new cache has an unused number, and its objects fit into its slabs"
-words_of_promise Promise.Gives = codes "a free reports its block's order, and a reap or destroy at most the frames of empty slabs"
-words_of_promise Promise.Owners = codes "a superblock has one owner, and each change of owners is reported correctly"
-words_of_promise Promise.Bytes = codes "a byte that is read is the one left there, or a fresh one if none was left or that one is in doubt"
-words_of_promise Promise.Report = codes "a report has the tenant's own figures"
-words_of_promise Promise.Still = codes "the figures of a report stay valid until a command changes something"
-
--- the words that name the first frame that two page blocks share, and the live one of these two blocks
-abbrev pub taken_text : TakenFrame → List ℕ
-taken_text taken = codes "frame " ++ (decimal taken.frame ++ (codes " lies in the block of order " ++ (decimal taken.page.order
-    ++ (codes " at frame " ++ decimal taken.page.first))))
-
--- why the promise Blocks is broken: the live page block in the way, if one was found, or else what the promise requires
-abbrev pub blocks_text : Option TakenFrame → List ℕ
-blocks_text None = words_of_promise Promise.Blocks
-blocks_text (Some taken) = taken_text taken
-
--- why a promise is broken: what the promise requires, or, for Blocks, the live page block in the way if one was found
-abbrev pub reason_text : Promise → Option TakenFrame → List ℕ
-reason_text Promise.Blocks taken = blocks_text taken
-reason_text Promise.Form taken = words_of_promise Promise.Form
-reason_text Promise.Refusals taken = words_of_promise Promise.Refusals
-reason_text Promise.Room taken = words_of_promise Promise.Room
-reason_text Promise.Busy taken = words_of_promise Promise.Busy
-reason_text Promise.Objects taken = words_of_promise Promise.Objects
-reason_text Promise.Layout taken = words_of_promise Promise.Layout
-reason_text Promise.Gives taken = words_of_promise Promise.Gives
-reason_text Promise.Owners taken = words_of_promise Promise.Owners
-reason_text Promise.Bytes taken = words_of_promise Promise.Bytes
-reason_text Promise.Report taken = words_of_promise Promise.Report
-reason_text Promise.Still taken = words_of_promise Promise.Still
-
 -- the line if a reply is not allowed; it shows at most 255 bytes of the line of the trace, and at most 200 bytes of the reply
-unfoldable pub breach_text : Breach → (trace_text reply_text : List ℕ) → Option TakenFrame → List ℕ
-breach_text breach trace_text reply_text taken = concat (
+unfoldable pub breach_text : Breach → (trace_text reply_text : List ℕ) → Option Reason → List ℕ
+breach_text breach trace_text reply_text reason = concat (
     codes "line " ∷ decimal breach.line ∷ codes ", reply " ∷ decimal breach.reply ∷ codes ": "
     ∷ excerpt_text (codes "no more lines") 255 (if_read trace_line (take MAX_PART_BYTES trace_text)) ∷ codes ", answered "
     ∷ excerpt_text (codes "nothing") 200 (if_read without_line_feed (take MAX_TEXT_BYTES reply_text)) ∷ codes ": "
     ∷ name_of_promise breach.promise ∷ codes ": "
-    ∷ reason_text breach.promise taken ∷ codes "\n" ∷ [])
+    ∷ reason_text breach.promise reason ∷ codes "\n" ∷ [])
 
 -- the line of a finding was written; for a breach it shows the line of the trace and the reply that `shown` has
 abbrev pub AppendsFinding : Finding → Shown → (tenants : ℕ) → (old new : Option (List ℕ)) → Type 0
 AppendsFinding (Finding.Kept lines) shown tenants old new = Appends old new (kept_text lines tenants)
 AppendsFinding (Finding.Broken breach) shown tenants old new =
-    (trace_text reply_text : List ℕ) → HasRead trace_text reply_text shown → Appends old new (breach_text breach trace_text reply_text shown.taken)
+    (trace_text reply_text : List ℕ) → HasRead trace_text reply_text shown → Appends old new (breach_text breach trace_text reply_text shown.reason)

@@ -15,6 +15,7 @@
 #![tactic(auto)]
 
 mod checked;
+mod reasons;
 mod run;
 mod settings;
 mod telling;

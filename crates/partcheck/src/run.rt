@@ -7,7 +7,7 @@ ghost use Rattle.reply_judge.specs.KnownMachine.{ShowsKnown};
 ghost use Rattle.trace_check.specs.declared.finding.Breach.{Breach};
 ghost use Rattle.trace_check.specs.Checking.{ComesToAdd, HasRead, IsEndedBy, IsKeptAtEnd, ShowsFinding};
 ghost use Rattle.trace_check.specs.Reading.{HasGiven, WhateverFollows, readings_of};
-ghost use Rattle.trace_check.specs.Taken.{IsNoted};
+ghost use Rattle.trace_check.specs.Reasons.{IsNoted};
 ghost use Rattle.partcheck.specs.Checked.{IsFindingOf, opening_of};
 
 use model_core::config::Config;
@@ -19,9 +19,8 @@ use trace_check::{Finding, LineReader, Shown, Unchecked, check, laws};
 
 /// Checks the replies to a trace on a machine of these sizes, in which no superblock is granted at first. Returns `Err` if the
 /// trace or the replies cannot be read, or if memory runs out. If a reply is not allowed, `shown` has the line and the reply, as
-/// after [`check`]. If the line is an event, and the reply is a reply of one line, `shown.taken` becomes the tenant's first live
-/// page block that overlaps the page block of the reply, with the first frame that both share, or `None` if no live block does.
-/// Otherwise `shown.taken` is unchanged.
+/// after [`check`], and `shown.reason` says why the reply breaks its promise, if that is worked out for this promise. If the line
+/// has no event, `shown.reason` is unchanged.
 pub fn run<T: Feed, R: Feed>(
     alloc: Global,
     config: Config,
@@ -34,11 +33,11 @@ pub fn run<T: Feed, R: Feed>(
     requires replies_fine { replies.old.failed ≡ false }
     // `trace_text` is the text that was read of the trace, and `reply_text` is the text that was read of the replies. All texts that begin
     // with these have this finding, and it is true of them. If it is a breach, `shown` has the line and the reply of the breach,
-    // and a live page block in the way of the reply is noted, by what is known after the earlier lines and their replies.
+    // and the reason of the breach is noted, by what is known after the earlier lines and their replies.
     ensures found { (trace_text : List ℕ) × (reply_text : List ℕ) × HasGiven trace.old trace.new trace_text × HasGiven replies.old replies.new reply_text
         × IfOk result (λ finding. WhateverFollows trace.new replies.new trace_text reply_text (IsFindingOf config finding))
         × IfOk result (λ finding. ShowsFinding (opening_of config) finding trace_text reply_text shown.new
-        (λ line reply now. IsNoted line reply now shown.old.taken shown.new.taken)) }
+        (λ breach line reply now. IsNoted breach.promise line reply now shown.old.reason shown.new.reason)) }
     ensures kept { IfOk result (λ finding. IsKeptAtEnd finding trace.new replies.new) }
     // If the texts of the trace and of the replies are known, they have this finding, and it is true of them.
     ensures known { (trace_text reply_text : List ℕ) → trace.old.left ≡ Some trace_text → replies.old.left ≡ Some reply_text
@@ -59,20 +58,22 @@ pub fn run<T: Feed, R: Feed>(
         config.tenants as u8,
     )?;
     let found = check(&mut machine, trace, replies, shown);
-    note_taken(&found, &machine, shown);
+    note_reason(&found, &machine, shown);
     // The machine is not dropped: the process ends soon, and the system frees its memory faster than drops would.
     mem::forget(machine);
     found
 }
 
-/// After a breach, looks for a live page block that overlaps the page block of the shown reply.
-fn note_taken(found: &Result<Finding, Unchecked>, machine: &KnownMachine, shown: &mut Shown)
+/// After a breach, looks for the reason why the shown reply breaks its promise.
+fn note_reason(found: &Result<Finding, Unchecked>, machine: &KnownMachine, shown: &mut Shown)
     ensures line { shown.new.line ≡ shown.old.line }
     ensures reply { shown.new.reply ≡ shown.old.reply }
-    ensures taken { (breach : Breach) (trace_text reply_text : List ℕ) (w : Known) → found.now ≡ Ok (Finding.Broken breach)
-        → HasRead trace_text reply_text shown.old → ShowsKnown machine.now w → IsNoted trace_text reply_text w shown.old.taken shown.new.taken }
+    ensures reason { (breach : Breach) (trace_text reply_text : List ℕ) (w : Known) → found.now ≡ Ok (Finding.Broken breach)
+        → HasRead trace_text reply_text shown.old → ShowsKnown machine.now w
+        → IsNoted breach.promise trace_text reply_text w shown.old.reason shown.new.reason }
 {
-    if let Ok(Finding::Broken(_)) = found {
-        shown.look_for_taken(machine);
-    }
+    let Ok(Finding::Broken(breach)) = found else {
+        return;
+    };
+    shown.look_for_reason(machine, breach.promise);
 }

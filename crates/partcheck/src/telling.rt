@@ -7,13 +7,13 @@ ghost use Rattle.std.specs.List.{list_all};
 ghost use Rattle.std.specs.Str.Lines.{strip_carriage_return};
 ghost use Rattle.trace_check.specs.Checking.{HasRead};
 ghost use Rattle.trace_check.specs.Reading.{without_line_feed};
-ghost use Rattle.partcheck.specs.Telling.{AppendsFinding, begin_text, breach_text, counted_word, cut_mark, excerpt_of, excerpt_text};
-ghost use Rattle.partcheck.specs.Telling.{has_filled_ends, if_read, is_plain_text, is_reply_byte, is_shown_plain, kept_text, plain_byte};
-ghost use Rattle.partcheck.specs.Telling.{reason_text, trace_line, words_of_promise};
+ghost use Rattle.partcheck.specs.Telling.{AppendsFinding, begin_text, breach_text, counted_word, cut_mark, excerpt_of};
+ghost use Rattle.partcheck.specs.Telling.{excerpt_text, has_filled_ends, if_read, is_plain_text, is_reply_byte, is_shown_plain};
+ghost use Rattle.partcheck.specs.Telling.{kept_text, plain_byte, trace_line};
 
-use promise_core::promise::Promise;
+use crate::reasons::write_reason;
 use std::io::{self, Write};
-use trace_check::{Breach, Finding, Shown, TakenFrame};
+use trace_check::{Breach, Finding, Shown};
 
 /// The largest number of bytes of a trace line that are printed. A line with more bytes has the fault `Long`.
 const MAX_LINE_BYTES: usize = 255;
@@ -65,7 +65,7 @@ fn counted<'a>(one: &'a str, several: &'a str, count: u128) -> &'a str
 
 fn write_breach<W: Write>(out: &mut W, breach: &Breach, shown: &Shown) -> io::Result<()>
     ensures { OnOk result ((trace_text reply_text : List ℕ) → HasRead trace_text reply_text shown.now
-        → Appends (W.contents out.old) (W.contents out.new) (breach_text breach.now trace_text reply_text shown.now.taken)) }
+        → Appends (W.contents out.old) (W.contents out.new) (breach_text breach.now trace_text reply_text shown.now.reason)) }
 {
     let Breach {
         line,
@@ -79,28 +79,8 @@ fn write_breach<W: Write>(out: &mut W, breach: &Breach, shown: &Shown) -> io::Re
     let reply_text = lines_read(shown.reply.front());
     write_shown(out, reply_text, MAX_REPLY_BYTES, "nothing")?;
     write!(out, ": {promise}: ")?;
-    write_reason(out, *promise, shown.taken)?;
+    write_reason(out, *promise, shown.reason)?;
     out.write_all(b"\n")
-}
-
-/// Writes why a promise is broken: what the promise requires, or, for `Blocks`, the live page block in the way if one was found.
-fn write_reason<W: Write>(
-    out: &mut W,
-    promise: Promise,
-    taken: Option<TakenFrame>,
-) -> io::Result<()>
-    ensures { OnOk result (Appends (W.contents out.old) (W.contents out.new) (reason_text promise taken)) }
-{
-    match (promise, taken) {
-        (Promise::Blocks, Some(taken)) => {
-            let (frame, order, first) = (taken.frame, taken.page.order(), taken.page.first());
-            write!(
-                out,
-                "frame {frame} lies in the block of order {order} at frame {first}"
-            )
-        }
-        _ => out.write_all(words_of(promise).as_bytes()),
-    }
 }
 
 /// Returns a line of a trace without the LF at its end, and without the CR in front of this LF. Returns `None` if nothing was
@@ -244,32 +224,4 @@ fn write_escape<W: Write>(out: &mut W, byte: u8) -> io::Result<()>
         out.write_all(&[escaped])?;
     }
     Ok(())
-}
-
-/// Returns the words for what a promise requires.
-fn words_of(promise: Promise) -> &'static str
-    ensures { result.now ≡ words_of_promise promise }
-{
-    match promise {
-        Promise::Form =>
-            "a reply has the right addressee, and is a refusal or an answer to that command",
-        Promise::Refusals =>
-            "the first refusal whose condition holds is the reply, and no other refusal comes",
-        Promise::Room => "nothing is refused for lack of frames while it can be allocated",
-        Promise::Busy =>
-            "a slot is busy only if a frame of it is taken, or if an empty slab may be in it",
-        Promise::Blocks =>
-            "a block is aligned, lies in a held slot and overlaps nothing that is taken",
-        Promise::Objects =>
-            "an object is aligned, lies in a slab of its cache and overlaps no live object",
-        Promise::Layout => "a new cache has an unused number, and its objects fit into its slabs",
-        Promise::Gives =>
-            "a free reports its block's order, and a reap or destroy at most the frames of empty slabs",
-        Promise::Owners =>
-            "a superblock has one owner, and each change of owners is reported correctly",
-        Promise::Bytes =>
-            "a byte that is read is the one left there, or a fresh one if none was left or that one is in doubt",
-        Promise::Report => "a report has the tenant's own figures",
-        Promise::Still => "the figures of a report stay valid until a command changes something",
-    }
 }

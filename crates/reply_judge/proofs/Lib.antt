@@ -7,6 +7,7 @@ pub mod KnownAfterCommand
 pub mod KnownAfterAdmin
 pub mod HeldBytes
 pub mod ReplyVerdicts
+pub mod DueRefusals
 pub mod Opening
 pub mod RowSums
 pub mod Lists

@@ -2,3 +2,4 @@ pub mod Seen
 pub mod KnownMachine
 pub mod Adding
 pub mod Judged
+pub mod Due

@@ -158,6 +158,24 @@ impl Tenant {
         }
     }
 
+    /// Returns the refusal that must come in reply to the command, if any.
+    #[tactic(auto, unfolding(promise_core::specs::Promises::due))]
+    pub(crate) fn due_of_admin(
+        &self,
+        owners: &[Option<Owner>],
+        command: &AdminCommand,
+    ) -> Option<Refusal>
+        ensures { (w : Known) → result
+            ≡ due (On.Admin command.now) (known_at self.now (record w { owners = owners.now })) (state_of self.now) }
+    {
+        match command {
+            AdminCommand::Grant { .. } => due_of_grant(owners),
+            AdminCommand::TakeBack { slot, .. } => self.due_of_take_back(*slot),
+            AdminCommand::Move { slot, .. } => self.due_of_move(owners, *slot),
+            AdminCommand::Reset { .. } | AdminCommand::Pool => None,
+        }
+    }
+
     /// Judges a refusal to take back the slot.
     fn judge_slot_kept(&self, slot: u32, refusal: Refusal) -> Result<(), Failure>
         ensures { (t : ℕ) (w : Known)

@@ -4,14 +4,17 @@ ghost use Rattle.std.specs.Prelude.{◌≡◌, ◌≤◌, IfOk, None, find, leng
 ghost use Rattle.model_core.specs.declared.limits.TheConstants.{MAX_CACHES, MAX_ORDER, MAX_SUPERBLOCKS};
 ghost use Rattle.model_core.specs.Operations.{overlaps};
 ghost use Rattle.std.specs.Option.{option_map_or};
-ghost use Rattle.promise_core.specs.State.{opening};
+ghost use Rattle.promise_core.specs.State.{opening, Known};
+ghost use Rattle.reply_judge.specs.Due.{refusal_due};
 ghost use Rattle.reply_judge.specs.KnownMachine.{ShowsKnown};
 
+use crate::addressing::tenant_named;
 use crate::tenant::Tenant;
 use known_holdings::FrameBlock;
 use model_core::owner::Owner;
 use std::alloc::{AllocError, Global};
 use std::marker::Model;
+use words_core::{Event, Refusal};
 
 /// What replies reported about a machine: the owner of each superblock, and what each tenant has.
 #[derive(Debug, Drop)]
@@ -80,6 +83,22 @@ impl KnownMachine {
         ensures { result ≡ option_map_or (λ y. find (overlaps block.now) y.has.pages) (slice_get self.now.tenants tenant) None }
     {
         self.tenants.get(tenant as usize)?.page_over(block)
+    }
+
+    /// Returns the refusal that the reply to the event has to be, if there is one.
+    pub fn due(&self, event: &Event) -> Option<Refusal>
+        ensures { (w : Known) → ShowsKnown self.now w → result ≡ refusal_due w event.now }
+    {
+        let Some(t) = tenant_named(event) else {
+            return None;
+        };
+        if t as usize >= self.tenants.len() {
+            return Some(Refusal::NoTenant);
+        }
+        match event {
+            Event::Tenant(_, command) => self.tenants[t as usize].due(command),
+            Event::Admin(command) => self.tenants[t as usize].due_of_admin(&self.owners, command),
+        }
     }
 
     /// Returns the number of caches of the tenant, or `None` if the tenant does not exist.

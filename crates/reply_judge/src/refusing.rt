@@ -39,7 +39,7 @@ impl Tenant {
 
     /// Returns the refusal that must come in reply to the command, if any.
     #[tactic(auto, unfolding(promise_core::specs::Promises::due))]
-    fn due(&self, command: &Command) -> Option<Refusal>
+    pub(crate) fn due(&self, command: &Command) -> Option<Refusal>
         ensures { (t : ℕ) (w : Known)
             → result ≡ due (On.Tenant t command.now) (known_at self.now w) (state_of self.now) }
     {

@@ -15,6 +15,7 @@ pub mod Ending
 pub mod CheckLemmas
 pub mod StillKnown
 pub mod TakenLemmas
+pub mod ReasonLemmas
 pub mod TextLemmas
 pub mod CountLemmas
 pub mod LawLemmas

@@ -79,12 +79,13 @@ pub record HasRead (trace_text reply_text : List ℕ) (shown : Shown) : Type 0 w
   pub line : Gathers MAX_PART_BYTES trace_text shown.line
   pub reply : Gathers MAX_TEXT_BYTES reply_text shown.reply
 
--- if the finding is a breach, its line and its reply are shown, and the property `Also` holds of this line, of this reply, and of
--- what is known after the earlier lines and their replies
-abbrev pub ShowsFinding : Known → Finding → (trace_text reply_text : List ℕ) → Shown → (Also : List ℕ → List ℕ → Known → Type 0) → Type 0
+-- if the finding is a breach, its line and its reply are shown, and the property `Also` holds of this breach, of this line, of
+-- this reply, and of what is known after the earlier lines and their replies
+abbrev pub ShowsFinding : Known → Finding → (trace_text reply_text : List ℕ) → Shown
+    → (Also : Breach → List ℕ → List ℕ → Known → Type 0) → Type 0
 ShowsFinding w (Finding.Kept lines) trace_text reply_text shown Also = Unit {0}
 ShowsFinding w (Finding.Broken breach) trace_text reply_text shown Also = (line : List ℕ) × (reply : List ℕ) × (now : Known)
-    × IsBreachAt w now breach trace_text reply_text line reply × HasRead line reply shown × Also line reply now
+    × IsBreachAt w now breach trace_text reply_text line reply × HasRead line reply shown × Also breach line reply now
 
 -- Why there is no finding: the reader of the trace failed (`unread` is true), the reader of the replies failed (`untold` is
 -- true), or neither failed, but memory ran out, and `short` holds.

@@ -8,3 +8,4 @@ pub mod Finding
 pub mod Checking
 pub mod Laws
 pub mod Taken
+pub mod Reasons

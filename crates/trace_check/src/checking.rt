@@ -23,7 +23,7 @@ use streams::{Feed, Stopped};
 ///
 /// If a reply is not allowed, `shown` holds the line of the trace and what was read as the reply to it. If replies are left over
 /// after the reply to the last line, `shown` holds the first line of these replies, and no line of the trace. In both cases the
-/// state of `machine` is the one after the earlier replies, and `shown.taken` is unchanged.
+/// state of `machine` is the one after the earlier replies, and `shown.reason` is unchanged.
 pub fn check<T: Feed, R: Feed>(
     machine: &mut KnownMachine,
     trace: &mut LineReader<T>,
@@ -39,8 +39,8 @@ pub fn check<T: Feed, R: Feed>(
         × ((w : Known) → ShowsKnown machine.old w → IfOk result (λ finding. WhateverFollows trace.new replies.new trace_text reply_text
         (λ trace replies. finding ≡ finding_of w trace replies)))
         × ((w : Known) → ShowsKnown machine.old w → IfOk result (λ finding. ShowsFinding w finding trace_text reply_text shown.new
-        (λ line reply now. ShowsKnown machine.new now))) }
-    ensures taken { shown.new.taken ≡ shown.old.taken }
+        (λ breach line reply now. ShowsKnown machine.new now))) }
+    ensures reason { shown.new.reason ≡ shown.old.reason }
     ensures kept { IfOk result (λ finding. IsKeptAtEnd finding trace.new replies.new) }
     // Memory runs out only if an allowed reply adds something and no earlier reply broke a promise.
     ensures end { IsEndedBy result trace.new.failed replies.new.failed ((trace_text : List ℕ) × (reply_text : List ℕ)

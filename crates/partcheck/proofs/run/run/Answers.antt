@@ -1,7 +1,7 @@
 use Rattle.std.proofs.Common.{[], Ok, inl, inr, refl, ap, subst, ◌∙◌}
 use Rattle.std.proofs.lemmas.Result.{IfOk-from_err, IfOk-weaker}
 use Rattle.trace_check.specs.declared.finding.Finding.{Finding}
-use Rattle.trace_check.specs.Taken.{IsNoted}
+use Rattle.trace_check.specs.Reasons.{IsNoted}
 use Rattle.trace_check.proofs.Ending.{ended_so, ran_out}
 use Rattle.trace_check.proofs.ReadingLemmas.{gives_nothing}
 use Rattle.partcheck.specs.Checked.{IsFindingOf, opening_of}
@@ -26,10 +26,10 @@ returns-clause-found g c =
           finds c.kept_is_allowed.ensures c.broken_is_not_allowed.ensures c.args.config finding _ _ (so more later may might))
           (given.4 (opening_of c.args.config) c.in_ok-machine.ensures),
       found_so c.check-found.result _ _ (λ finding is so.
-          still_shown (opening_of c.args.config) finding given.0 given.1 c.check-found.new.shown c.note_taken.new.shown _ _
-          c.note_taken.ensures.line c.note_taken.ensures.reply
-          (λ breach line reply now broken read shows. subst (λ old. IsNoted line reply now old c.note_taken.new.shown.taken) c.check-found.ensures.taken
-          (c.note_taken.ensures.taken breach line reply now (is ∙ ap (λ (f : Finding). Ok f) broken) read shows)) so)
+          still_shown (opening_of c.args.config) finding given.0 given.1 c.check-found.new.shown c.note_reason.new.shown _ _
+          c.note_reason.ensures.line c.note_reason.ensures.reply
+          (λ breach line reply now broken read shows. subst (λ old. IsNoted breach.promise line reply now old c.note_reason.new.shown.reason) c.check-found.ensures.reason
+          (c.note_reason.ensures.reason breach line reply now (is ∙ ap (λ (f : Finding). Ok f) broken) read shows)) so)
           (given.5 (opening_of c.args.config) c.in_ok-machine.ensures),
     )
 

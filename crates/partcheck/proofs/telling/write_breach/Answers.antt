@@ -14,7 +14,7 @@ returns g c = each_read c.write_all-2.result (λ trace_text reply_text. HasRead 
     c.line_read-trace_text.ensures ∙ ap (if_read trace_line) (c.front.ensures trace_text read.line) in
     let reply_is : option_copied c.lines_read-reply_text.result ≡ if_read without_line_feed (take 65792 reply_text) =
     c.lines_read-reply_text.ensures ∙ ap (if_read without_line_feed) (c.front-2.ensures reply_text read.reply) in
-    last_text (g.W.Write.contents c.write_all-2.new.self) c.write_all-2.result _ (breach_text c.args.breach.now trace_text reply_text c.args.shown.now.taken)
+    last_text (g.W.Write.contents c.write_all-2.new.self) c.write_all-2.result _ (breach_text c.args.breach.now trace_text reply_text c.args.shown.now.reason)
     (then_text (g.W.Write.contents c.write_reason.new.out) _
     (then_text (g.W.Write.contents c.write-2.new.self) _
     (then_text (g.W.Write.contents c.write_shown-2.new.out) (excerpt_text (codes "nothing") 200 (if_read without_line_feed (take 65792 reply_text)))

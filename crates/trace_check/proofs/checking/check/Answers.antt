@@ -15,7 +15,7 @@ use Rattle.trace_check.proofs.checking.check.Goals as goal
 pub lines-init : goal.lines-init
 lines-init g c = record {
   given = ([], [], gives_nothing _, gives_nothing _, λ w shows. (w, shows, λ more later may. (refl, λ adds. adds, λ end known. known), refl));
-  taken = refl;
+  reason = refl;
   trace_fine = c.requires.trace_fine;
   replies_fine = c.requires.replies_fine;
   lines = omega arith;
@@ -62,7 +62,7 @@ lines-preserved g c =
               lines_more c.lines.reply c.in-Ok.lines here.1 answer.0 (answer.0, []) whole lines,
             ),
       );
-      taken = c.lines.invariant.taken;
+      reason = c.lines.invariant.reason;
       trace_fine = c.in_ok-reading.ensures.end.0;
       replies_fine = c.in_ok-lines.ensures.end.1;
       lines = omega (arith, c.lines.invariant.lines, less);

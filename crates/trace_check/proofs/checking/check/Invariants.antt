@@ -11,7 +11,7 @@ invariant-lines g l = record {
   given : (trace_text : List ℕ) × (reply_text : List ℕ) × HasGiven l.fn.trace l.trace trace_text × HasGiven l.fn.replies l.replies reply_text
       × ((w : Known) → ShowsKnown l.fn.machine w
       → (now : Known) × ShowsKnown l.machine now × IsBehind w trace_text reply_text l.line l.reply l.trace now × (lines_at l.reply reply_text ≡ Some (reply_text, [])));
-  taken : l.shown.taken ≡ l.fn.shown.taken;
+  reason : l.shown.reason ≡ l.fn.shown.reason;
   trace_fine : l.trace.failed ≡ false;
   replies_fine : l.replies.failed ≡ false;
   lines : l.trace.room + l.line ≤ l.fn.trace.room;

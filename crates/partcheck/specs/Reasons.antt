@@ -1,0 +1,39 @@
+-- The words for why a promise is broken.
+use Rattle.std.specs.Prelude.{ℕ, List, ◌++◌, Option, Some, None, codes, decimal}
+use Rattle.promise_core.specs.declared.promise.Promise.{Promise}
+use Rattle.trace_check.specs.declared.reason.Reason.{Reason}
+use Rattle.trace_check.specs.declared.taken.TakenFrame.{TakenFrame}
+use Rattle.words_core.specs.Texts.{name_of_refusal, number_of_refusal}
+use Rattle.words_core.specs.declared.reply.Refusal.{Refusal}
+
+-- the words for what a promise requires
+abbrev pub words_of_promise : Promise → List ℕ
+words_of_promise Promise.Form = codes "a reply has the right addressee, and is a refusal or an answer to that command"
+words_of_promise Promise.Refusals = codes "the first refusal whose condition holds is the reply, and no other refusal comes"
+words_of_promise Promise.Room = codes "nothing is refused for lack of frames while it can be allocated"
+words_of_promise Promise.Busy = codes "a slot is busy only if a frame of it is taken, or if an empty slab may be in it"
+words_of_promise Promise.Blocks = codes "a block is aligned, lies in a held slot and overlaps nothing that is taken"
+words_of_promise Promise.Objects = codes "an object is aligned, lies in a slab of its cache and overlaps no live object"
+words_of_promise Promise.Layout = codes "a new cache has an unused number, and its objects fit into its slabs"
+words_of_promise Promise.Gives = codes "a free reports its block's order, and a reap or destroy at most the frames of empty slabs"
+words_of_promise Promise.Owners = codes "a superblock has one owner, and each change of owners is reported correctly"
+words_of_promise Promise.Bytes = codes "a byte that is read is the one left there, or a fresh one if none was left or that one is in doubt"
+words_of_promise Promise.Report = codes "a report has the tenant's own figures"
+words_of_promise Promise.Still = codes "the figures of a report stay valid until a command changes something"
+
+-- the words that name the first frame that two page blocks share, and the live one of these two blocks
+abbrev pub taken_text : TakenFrame → List ℕ
+taken_text taken = codes "frame " ++ (decimal taken.frame ++ (codes " lies in the block of order " ++ (decimal taken.page.order
+    ++ (codes " at frame " ++ decimal taken.page.first))))
+
+-- the words for the refusal that was due
+abbrev pub due_text : Option Refusal → List ℕ
+due_text None = codes "no refusal is due"
+due_text (Some refusal) = codes "refused " ++ (decimal (number_of_refusal refusal) ++ (codes " " ++ (name_of_refusal refusal
+    ++ codes " is due")))
+
+-- the words for why a promise is broken, or for what the promise requires if no reason was worked out
+abbrev pub reason_text : Promise → Option Reason → List ℕ
+reason_text promise None = words_of_promise promise
+reason_text promise (Some (Reason.Due due)) = due_text due
+reason_text promise (Some (Reason.Taken taken)) = taken_text taken

@@ -1,0 +1,77 @@
+//! Writes why a promise is broken.
+
+ghost use Rattle.std.specs.Prelude.{◌≡◌, OnOk};
+ghost use Rattle.std.specs.Io.KnownBytes.{Appends};
+ghost use Rattle.partcheck.specs.Reasons.{due_text, reason_text, taken_text, words_of_promise};
+
+use promise_core::promise::Promise;
+use std::io::{self, Write};
+use trace_check::{Reason, TakenFrame};
+use words_core::Refusal;
+
+/// Writes why a promise is broken, or what the promise requires if no reason was worked out.
+pub(crate) fn write_reason<W: Write>(
+    out: &mut W,
+    promise: Promise,
+    reason: Option<Reason>,
+) -> io::Result<()>
+    ensures { OnOk result (Appends (W.contents out.old) (W.contents out.new) (reason_text promise reason)) }
+{
+    match reason {
+        Some(Reason::Due(due)) => write_due(out, due),
+        Some(Reason::Taken(taken)) => write_taken(out, taken),
+        None => out.write_all(words_of(promise).as_bytes()),
+    }
+}
+
+/// Writes which refusal was due.
+fn write_due<W: Write>(out: &mut W, due: Option<Refusal>) -> io::Result<()>
+    ensures { OnOk result (Appends (W.contents out.old) (W.contents out.new) (due_text due)) }
+{
+    match due {
+        Some(refusal) => {
+            let (number, name) = (refusal.number(), refusal.name());
+            write!(out, "refused {number} {name} is due")
+        }
+        None => out.write_all(b"no refusal is due"),
+    }
+}
+
+/// Writes which live page block has a frame of the reply's page block.
+fn write_taken<W: Write>(out: &mut W, taken: TakenFrame) -> io::Result<()>
+    ensures { OnOk result (Appends (W.contents out.old) (W.contents out.new) (taken_text taken)) }
+{
+    let (frame, order, first) = (taken.frame, taken.page.order(), taken.page.first());
+    write!(
+        out,
+        "frame {frame} lies in the block of order {order} at frame {first}"
+    )
+}
+
+/// Returns the words for what a promise requires.
+fn words_of(promise: Promise) -> &'static str
+    ensures { result.now ≡ words_of_promise promise }
+{
+    match promise {
+        Promise::Form =>
+            "a reply has the right addressee, and is a refusal or an answer to that command",
+        Promise::Refusals =>
+            "the first refusal whose condition holds is the reply, and no other refusal comes",
+        Promise::Room => "nothing is refused for lack of frames while it can be allocated",
+        Promise::Busy =>
+            "a slot is busy only if a frame of it is taken, or if an empty slab may be in it",
+        Promise::Blocks =>
+            "a block is aligned, lies in a held slot and overlaps nothing that is taken",
+        Promise::Objects =>
+            "an object is aligned, lies in a slab of its cache and overlaps no live object",
+        Promise::Layout => "a new cache has an unused number, and its objects fit into its slabs",
+        Promise::Gives =>
+            "a free reports its block's order, and a reap or destroy at most the frames of empty slabs",
+        Promise::Owners =>
+            "a superblock has one owner, and each change of owners is reported correctly",
+        Promise::Bytes =>
+            "a byte that is read is the one left there, or a fresh one if none was left or that one is in doubt",
+        Promise::Report => "a report has the tenant's own figures",
+        Promise::Still => "the figures of a report stay valid until a command changes something",
+    }
+}

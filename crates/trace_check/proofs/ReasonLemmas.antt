@@ -1,0 +1,20 @@
+-- The reasons that are worked out for some promises alone.
+use Rattle.std.proofs.Common.{◌≡◌, Option, None, refl}
+use Rattle.std.specs.Prelude.{MatchOption}
+use Rattle.words_core.specs.declared.reply.Body.{Body}
+use Rattle.words_core.specs.declared.event.Event.{Event}
+use Rattle.words_core.specs.declared.reply.Reply.{Reply}
+use Rattle.promise_core.specs.declared.promise.Promise.{Promise}
+use Rattle.promise_core.specs.State.{Known}
+use Rattle.trace_check.specs.Reasons.{IsReason, IsReasonOf}
+use Rattle.trace_check.specs.declared.reason.Reason.{Reason}
+
+-- the reason why a reply breaks a promise other than Refusals is the reason that its answer gives
+pub in_reply : (promise : Promise) (w : Known) (event : Event) (reply : Option Reply) (reason : Option Reason) → (promise ≡ Promise.Refusals → ⊥)
+    → MatchOption reply (reason ≡ None) (λ told. IsReasonOf promise w event told.body reason) → IsReason promise w event reply reason
+in_reply Promise.Refusals w event reply reason other is = absurd (other refl)
+in_reply promise w event reply reason other is = is
+
+pub none_given : (promise : Promise) (w : Known) (event : Event) (body : Body) → (promise ≡ Promise.Blocks → ⊥) → IsReasonOf promise w event body None
+none_given Promise.Blocks w event body other = absurd (other refl)
+none_given promise w event body other = refl

@@ -1,0 +1,51 @@
+-- Why a reply breaks a promise, by what is known before the reply. For some promises, and for some replies, no reason is worked
+-- out.
+use Rattle.std.specs.Prelude.{◌≡◌, ℕ, List, Option, Some, None, Result, Ok, Err, MatchOption, option_map}
+use Rattle.words_core.specs.declared.reply.Body.{Body}
+use Rattle.words_core.specs.declared.event.Event.{Event}
+use Rattle.words_core.specs.declared.event.LineFault.{LineFault}
+use Rattle.words_core.specs.declared.reply.Reply.{Reply}
+use Rattle.words_core.specs.Grammar.{reading_of}
+use Rattle.promise_core.specs.declared.promise.Promise.{Promise}
+use Rattle.promise_core.specs.State.{Known}
+use Rattle.reply_judge.specs.Due.{refusal_due}
+use Rattle.trace_check.specs.Forms.{◌>>=◌}
+use Rattle.trace_check.specs.Gathered.{whole_of}
+use Rattle.trace_check.specs.Reading.{without_line_feed}
+use Rattle.trace_check.specs.Replies.{answer_of}
+use Rattle.trace_check.specs.Taken.{IsInWay}
+use Rattle.trace_check.specs.declared.reason.Reason.{Reason}
+use Rattle.trace_check.specs.declared.shown.TheConstants.{MAX_TEXT_BYTES}
+use Rattle.trace_check.specs.declared.taken.TakenFrame.{TakenFrame}
+
+-- the event of a line, if it has one
+abbrev pub event_read : Result (Option Event) LineFault → Option Event
+event_read (Ok event) = event
+event_read (Err fault) = None
+
+-- the reply, if this text was read as a reply of one line
+abbrev pub answer_read : List ℕ → Option Reply
+answer_read text = whole_of MAX_TEXT_BYTES text >>= answer_of
+
+-- the reason why the reply's page block may not be allocated: the live page block in the way, if there is one
+pub record IsBlockReason (w : Known) (event : Event) (body : Body) (reason : Option Reason) : Type 0 where
+  pub taken : Option TakenFrame
+  pub in_way : IsInWay w event body taken
+  pub is : reason ≡ option_map (λ found. Reason.Taken found) taken
+
+-- the reason why a reply of one line breaks this promise
+abbrev pub IsReasonOf : Promise → Known → Event → Body → Option Reason → Type 0
+IsReasonOf Promise.Blocks w event body reason = IsBlockReason w event body reason
+IsReasonOf promise w event body reason = reason ≡ None
+
+-- The reason why the reply breaks this promise: for Refusals the refusal that was due. `reply` is None if the reply is not a
+-- reply of one line.
+abbrev pub IsReason : Promise → Known → Event → Option Reply → Option Reason → Type 0
+IsReason Promise.Refusals w event reply reason = reason ≡ Some (Reason.Due (refusal_due w event))
+IsReason promise w event reply reason = MatchOption reply (reason ≡ None) (λ told. IsReasonOf promise w event told.body reason)
+
+-- If the line was read as an event, and `w` is what is known before the reply, the reason for the breach of this promise is
+-- noted. Otherwise the note is unchanged.
+abbrev pub IsNoted : Promise → (trace_text reply_text : List ℕ) → Known → (old new : Option Reason) → Type 0
+IsNoted promise trace_text reply_text w old new = MatchOption (event_read (reading_of (without_line_feed trace_text))) (new ≡ old)
+    (λ event. IsReason promise w event (answer_read reply_text) new)

@@ -1,0 +1,84 @@
+//! Why a reply breaks a promise.
+
+ghost use Rattle.std.specs.Prelude.{◌≡◌, ℕ, List, None, MatchOption};
+ghost use Rattle.words_core.specs.Requests.{body_of_answer};
+ghost use Rattle.promise_core.specs.State.{Known};
+ghost use Rattle.reply_judge.specs.KnownMachine.{ShowsKnown};
+ghost use Rattle.trace_check.specs.Gathered.{Gathers};
+ghost use Rattle.trace_check.specs.Reasons.{IsBlockReason, IsReason, IsReasonOf, answer_read};
+
+use crate::answer::read_answer;
+use crate::gathered::Gathered;
+use crate::shown::MAX_TEXT_BYTES;
+use crate::taken::{TakenFrame, taken_frame};
+use model_core::limits::MAX_BYTES;
+use promise_core::promise::Promise;
+use reply_judge::KnownMachine;
+use words_core::{Answer, Event, Refusal};
+
+/// Why a reply breaks a promise.
+#[derive(Clone, Copy, Debug)]
+pub enum Reason {
+    /// `Refusals`: the reply has to be this refusal, or no refusal is due.
+    Due(Option<Refusal>),
+    /// `Blocks`: a live page block has a frame of the reply's page block.
+    Taken(TakenFrame),
+}
+
+/// Returns why the reply to the event breaks the promise. `reply` has the bytes that were read as the reply. Returns `None` if no
+/// reason is worked out for this promise and this reply.
+pub(crate) fn reason_for(
+    machine: &KnownMachine,
+    promise: Promise,
+    event: &Event,
+    reply: &Gathered<MAX_TEXT_BYTES>,
+) -> Option<Reason>
+    ensures { (text : List ℕ) (w : Known) → Gathers MAX_TEXT_BYTES text reply.now → ShowsKnown machine.now w
+        → IsReason promise w event.now (answer_read text) result }
+{
+    match promise {
+        Promise::Refusals => Some(Reason::Due(machine.due(event))),
+        _ => reason_in_reply(machine, promise, event, reply),
+    }
+}
+
+/// Does the same as [`reason_for`] for all promises other than `Refusals`. Returns `None` if the reply is not a reply of one line.
+fn reason_in_reply(
+    machine: &KnownMachine,
+    promise: Promise,
+    event: &Event,
+    reply: &Gathered<MAX_TEXT_BYTES>,
+) -> Option<Reason>
+    ensures { (text : List ℕ) (w : Known) → Gathers MAX_TEXT_BYTES text reply.now → ShowsKnown machine.now w
+        → MatchOption (answer_read text) (result ≡ None) (λ told. IsReasonOf promise w event.now told.body result) }
+{
+    let text = reply.whole()?;
+    let mut buffer = [0; MAX_BYTES];
+    let (_, answer) = read_answer(text, &mut buffer)?;
+    reason_in_answer(machine, promise, event, &answer)
+}
+
+/// Returns why the answer to the event breaks the promise.
+fn reason_in_answer(
+    machine: &KnownMachine,
+    promise: Promise,
+    event: &Event,
+    answer: &Answer<'_>,
+) -> Option<Reason>
+    ensures { (w : Known) → ShowsKnown machine.now w → IsReasonOf promise w event.now (body_of_answer answer.now) result }
+{
+    match promise {
+        Promise::Blocks => block_reason(machine, event, answer),
+        _ => None,
+    }
+}
+
+/// Returns the live page block that has a frame of the answer's page block, if there is one.
+fn block_reason(machine: &KnownMachine, event: &Event, answer: &Answer<'_>) -> Option<Reason>
+    ensures { (w : Known) → ShowsKnown machine.now w → IsBlockReason w event.now (body_of_answer answer.now) result }
+{
+    match taken_frame(machine, event, answer) {
+        Some(taken) => Some(Reason::Taken(taken)),
+        None => None,
+    }
+}
