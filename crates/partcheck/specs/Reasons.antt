@@ -1,5 +1,6 @@
 -- The words for why a promise is broken.
 use Rattle.std.specs.Prelude.{ℕ, List, ◌++◌, Option, Some, None, codes, decimal}
+use Rattle.model_core.specs.Blocks.{Block}
 use Rattle.promise_core.specs.declared.promise.Promise.{Promise}
 use Rattle.trace_check.specs.declared.reason.Reason.{Reason}
 use Rattle.trace_check.specs.declared.taken.TakenFrame.{TakenFrame}
@@ -32,8 +33,13 @@ due_text None = codes "no refusal is due"
 due_text (Some refusal) = codes "refused " ++ (decimal (number_of_refusal refusal) ++ (codes " " ++ (name_of_refusal refusal
     ++ codes " is due")))
 
+-- the words for the page block that is freed
+abbrev pub freed_text : Block → List ℕ
+freed_text page = codes "the block at frame " ++ (decimal page.first ++ (codes " has order " ++ decimal page.order))
+
 -- the words for why a promise is broken, or for what the promise requires if no reason was worked out
 abbrev pub reason_text : Promise → Option Reason → List ℕ
 reason_text promise None = words_of_promise promise
 reason_text promise (Some (Reason.Due due)) = due_text due
+reason_text promise (Some (Reason.Freed page)) = freed_text page
 reason_text promise (Some (Reason.Taken taken)) = taken_text taken

@@ -2,8 +2,9 @@
 
 ghost use Rattle.std.specs.Prelude.{◌≡◌, OnOk};
 ghost use Rattle.std.specs.Io.KnownBytes.{Appends};
-ghost use Rattle.partcheck.specs.Reasons.{due_text, reason_text, taken_text, words_of_promise};
+ghost use Rattle.partcheck.specs.Reasons.{due_text, freed_text, reason_text, taken_text, words_of_promise};
 
+use known_holdings::FrameBlock;
 use promise_core::promise::Promise;
 use std::io::{self, Write};
 use trace_check::{Reason, TakenFrame};
@@ -19,6 +20,7 @@ pub(crate) fn write_reason<W: Write>(
 {
     match reason {
         Some(Reason::Due(due)) => write_due(out, due),
+        Some(Reason::Freed(page)) => write_freed(out, &page),
         Some(Reason::Taken(taken)) => write_taken(out, taken),
         None => out.write_all(words_of(promise).as_bytes()),
     }
@@ -35,6 +37,14 @@ fn write_due<W: Write>(out: &mut W, due: Option<Refusal>) -> io::Result<()>
         }
         None => out.write_all(b"no refusal is due"),
     }
+}
+
+/// Writes which order the page block has that is freed.
+fn write_freed<W: Write>(out: &mut W, page: &FrameBlock) -> io::Result<()>
+    ensures { OnOk result (Appends (W.contents out.old) (W.contents out.new) (freed_text page.now)) }
+{
+    let (first, order) = (page.first(), page.order());
+    write!(out, "the block at frame {first} has order {order}")
 }
 
 /// Writes which live page block has a frame of the reply's page block.

@@ -30,8 +30,8 @@ standard output:
   kept: 218508 lines, 6 tenants
   line 391, reply 402: 0 alloc 0, answered 0> frame 12: Blocks: frame 12 lies in the block of order 1 at frame 12
 The second form is for the first reply that breaks a promise. It has the number of the line in
-TRACE and of the reply in REPLIES, both texts, the promise, and why it is broken: which refusal was
-due, which block is in the way, or else what the promise requires. Later replies are not judged.
+TRACE and of the reply in REPLIES, both texts, the promise, and why it is broken, such as which
+refusal was due; or else what the promise requires. Later replies are not judged.
 
 Exit status:
   0  every reply keeps every promise; or --help or --version

@@ -1,6 +1,6 @@
 //! What is known of a machine.
 
-ghost use Rattle.std.specs.Prelude.{◌≡◌, ◌≤◌, IfOk, None, find, length, option_map, replicate, slice_get};
+ghost use Rattle.std.specs.Prelude.{◌≡◌, ◌==◌, ◌≤◌, IfOk, None, find, length, option_map, replicate, slice_get};
 ghost use Rattle.model_core.specs.declared.limits.TheConstants.{MAX_CACHES, MAX_ORDER, MAX_SUPERBLOCKS};
 ghost use Rattle.model_core.specs.Operations.{overlaps};
 ghost use Rattle.std.specs.Option.{option_map_or};
@@ -83,6 +83,14 @@ impl KnownMachine {
         ensures { result ≡ option_map_or (λ y. find (overlaps block.now) y.has.pages) (slice_get self.now.tenants tenant) None }
     {
         self.tenants.get(tenant as usize)?.page_over(block)
+    }
+
+    /// Returns the live page block of the tenant that begins at the frame. Returns `None` if there is none, or if the tenant does
+    /// not exist.
+    pub fn page_at(&self, tenant: u32, frame: u32) -> Option<FrameBlock>
+        ensures { result ≡ option_map_or (λ y. find (λ b. b.first == frame) y.has.pages) (slice_get self.now.tenants tenant) None }
+    {
+        self.tenants.get(tenant as usize)?.page_at(frame)
     }
 
     /// Returns the refusal that the reply to the event has to be, if there is one.

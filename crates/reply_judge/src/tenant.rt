@@ -1,6 +1,6 @@
 //! What is known of a tenant.
 
-ghost use Rattle.std.specs.Prelude.{◌≡◌, ◌≤◌, ℕ, IfOk, None, find, length};
+ghost use Rattle.std.specs.Prelude.{◌≡◌, ◌==◌, ◌≤◌, ℕ, IfOk, None, find, length};
 ghost use Rattle.model_core.specs.declared.limits.TheConstants.{MAX_ORDER, MAX_SUPERBLOCKS};
 ghost use Rattle.model_core.specs.Operations.{overlaps};
 ghost use Rattle.words_core.specs.Requests.{body_of_answer};
@@ -69,6 +69,13 @@ impl Tenant {
         ensures { result ≡ find (overlaps block.now) self.now.has.pages }
     {
         self.held.page_over(block)
+    }
+
+    /// Returns the live page block that begins at the frame, if one does.
+    pub(crate) fn page_at(&self, frame: u32) -> Option<FrameBlock>
+        ensures { result ≡ find (λ b. b.first == frame) self.now.has.pages }
+    {
+        self.held.page_at(frame).copied()
     }
 
     /// Returns the number of caches of the tenant.

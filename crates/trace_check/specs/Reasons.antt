@@ -1,7 +1,10 @@
 -- Why a reply breaks a promise, by what is known before the reply. For some promises, and for some replies, no reason is worked
 -- out.
-use Rattle.std.specs.Prelude.{◌≡◌, ℕ, List, Option, Some, None, Result, Ok, Err, MatchOption, option_map}
+use Rattle.std.specs.Prelude.{◌≡◌, ◌==◌, ℕ, List, Option, Some, None, Result, Ok, Err, MatchOption, find, option_map, slice_get}
+use Rattle.std.specs.Option.{option_map_or}
+use Rattle.model_core.specs.Blocks.{Block}
 use Rattle.words_core.specs.declared.reply.Body.{Body}
+use Rattle.words_core.specs.declared.event.Command.{Command}
 use Rattle.words_core.specs.declared.event.Event.{Event}
 use Rattle.words_core.specs.declared.event.LineFault.{LineFault}
 use Rattle.words_core.specs.declared.reply.Reply.{Reply}
@@ -33,9 +36,16 @@ pub record IsBlockReason (w : Known) (event : Event) (body : Body) (reason : Opt
   pub in_way : IsInWay w event body taken
   pub is : reason ≡ option_map (λ found. Reason.Taken found) taken
 
--- the reason why a reply of one line breaks this promise
+-- the live page block that the event frees, if there is one
+abbrev pub page_freed : Known → Event → Option Block
+page_freed w (Event.Tenant t (Command.Free f)) =
+    option_map_or (λ s. find (λ b. b.first == f) s.has.pages) (slice_get w.states t) None
+page_freed w event = None
+
+-- the reason why a reply of one line breaks this promise; for Gives it is the page block that is freed, if the event is a free
 abbrev pub IsReasonOf : Promise → Known → Event → Body → Option Reason → Type 0
 IsReasonOf Promise.Blocks w event body reason = IsBlockReason w event body reason
+IsReasonOf Promise.Gives w event body reason = reason ≡ option_map (λ page. Reason.Freed page) (page_freed w event)
 IsReasonOf promise w event body reason = reason ≡ None
 
 -- The reason why the reply breaks this promise: for Refusals the refusal that was due. `reply` is None if the reply is not a

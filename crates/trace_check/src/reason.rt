@@ -1,26 +1,30 @@
 //! Why a reply breaks a promise.
 
-ghost use Rattle.std.specs.Prelude.{◌≡◌, ℕ, List, None, MatchOption};
+ghost use Rattle.std.specs.Prelude.{◌≡◌, ℕ, List, None, MatchOption, option_map};
 ghost use Rattle.words_core.specs.Requests.{body_of_answer};
 ghost use Rattle.promise_core.specs.State.{Known};
 ghost use Rattle.reply_judge.specs.KnownMachine.{ShowsKnown};
 ghost use Rattle.trace_check.specs.Gathered.{Gathers};
-ghost use Rattle.trace_check.specs.Reasons.{IsBlockReason, IsReason, IsReasonOf, answer_read};
+ghost use Rattle.trace_check.specs.Reasons.{IsBlockReason, IsReason, IsReasonOf, answer_read, page_freed};
+ghost use Rattle.trace_check.specs.declared.reason.Reason.TheVariants as Why;
 
 use crate::answer::read_answer;
 use crate::gathered::Gathered;
 use crate::shown::MAX_TEXT_BYTES;
 use crate::taken::{TakenFrame, taken_frame};
+use known_holdings::FrameBlock;
 use model_core::limits::MAX_BYTES;
 use promise_core::promise::Promise;
 use reply_judge::KnownMachine;
-use words_core::{Answer, Event, Refusal};
+use words_core::{Answer, Command, Event, Refusal};
 
 /// Why a reply breaks a promise.
 #[derive(Clone, Copy, Debug)]
 pub enum Reason {
     /// `Refusals`: the reply has to be this refusal, or no refusal is due.
     Due(Option<Refusal>),
+    /// `Gives`: the page block that is freed.
+    Freed(FrameBlock),
     /// `Blocks`: a live page block has a frame of the reply's page block.
     Taken(TakenFrame),
 }
@@ -69,6 +73,20 @@ fn reason_in_answer(
 {
     match promise {
         Promise::Blocks => block_reason(machine, event, answer),
+        Promise::Gives => freed_reason(machine, event),
+        _ => None,
+    }
+}
+
+/// Returns the live page block that the event frees, if there is one.
+fn freed_reason(machine: &KnownMachine, event: &Event) -> Option<Reason>
+    ensures { (w : Known) → ShowsKnown machine.now w
+        → result ≡ option_map (λ page. Why.Freed page) (page_freed w event.now) }
+{
+    match event {
+        Event::Tenant(tenant, Command::Free { frame }) => {
+            Some(Reason::Freed(machine.page_at(*tenant, *frame)?))
+        }
         _ => None,
     }
 }

@@ -5,5 +5,8 @@ use Rattle.trace_check.proofs.reason.reason_in_answer.Goals as goal
 pub returns-in-Blocks : goal.returns-in-Blocks
 returns-in-Blocks c w shown = rw c.in-Blocks.is (c.block_reason.ensures w shown)
 
+pub returns-in-Gives : goal.returns-in-Gives
+returns-in-Gives c w shown = rw c.in-Gives.is (c.freed_reason.ensures w shown)
+
 pub returns-in_default : goal.returns-in_default
-returns-in_default c w shown = none_given c.args.promise w c.args.event.now (body_of_answer c.args.answer.now) c.in_default.not-Blocks
+returns-in_default c w shown = none_given c.args.promise w c.args.event.now (body_of_answer c.args.answer.now) c.in_default.not-Blocks c.in_default.not-Gives
