@@ -2,6 +2,7 @@
 use Rattle.std.specs.Prelude.{ℕ, List, ◌++◌, Option, Some, None, codes, decimal}
 use Rattle.model_core.specs.Blocks.{Block}
 use Rattle.promise_core.specs.declared.promise.Promise.{Promise}
+use Rattle.reply_judge.specs.declared.faults.BlockFault.{BlockFault}
 use Rattle.trace_check.specs.declared.reason.Reason.{Reason}
 use Rattle.trace_check.specs.declared.taken.TakenFrame.{TakenFrame}
 use Rattle.words_core.specs.Texts.{name_of_refusal, number_of_refusal}
@@ -37,9 +38,18 @@ due_text (Some refusal) = codes "refused " ++ (decimal (number_of_refusal refusa
 abbrev pub freed_text : Block → List ℕ
 freed_text page = codes "the block at frame " ++ (decimal page.first ++ (codes " has order " ++ decimal page.order))
 
+-- the words for what keeps the reply's page block from being allocated
+abbrev pub unfit_text : Block → BlockFault → List ℕ
+unfit_text b BlockFault.Misaligned = codes "no block of order " ++ (decimal b.order ++ (codes " begins at frame " ++ decimal b.first))
+unfit_text b (BlockFault.Outside slot) =
+    codes "frame " ++ (decimal b.first ++ (codes " lies in slot " ++ (decimal slot ++ codes ", which is not held")))
+unfit_text b (BlockFault.Slab cache place) =
+    codes "the block overlaps the slab of the object at " ++ (decimal place ++ (codes " of cache " ++ decimal cache))
+
 -- the words for why a promise is broken, or for what the promise requires if no reason was worked out
 abbrev pub reason_text : Promise → Option Reason → List ℕ
 reason_text promise None = words_of_promise promise
 reason_text promise (Some (Reason.Due due)) = due_text due
 reason_text promise (Some (Reason.Freed page)) = freed_text page
 reason_text promise (Some (Reason.Taken taken)) = taken_text taken
+reason_text promise (Some (Reason.Unfit block fault)) = unfit_text block fault

@@ -2,10 +2,11 @@
 
 ghost use Rattle.std.specs.Prelude.{◌≡◌, OnOk};
 ghost use Rattle.std.specs.Io.KnownBytes.{Appends};
-ghost use Rattle.partcheck.specs.Reasons.{due_text, freed_text, reason_text, taken_text, words_of_promise};
+ghost use Rattle.partcheck.specs.Reasons.{due_text, freed_text, reason_text, taken_text, unfit_text, words_of_promise};
 
 use known_holdings::FrameBlock;
 use promise_core::promise::Promise;
+use reply_judge::BlockFault;
 use std::io::{self, Write};
 use trace_check::{Reason, TakenFrame};
 use words_core::Refusal;
@@ -22,6 +23,7 @@ pub(crate) fn write_reason<W: Write>(
         Some(Reason::Due(due)) => write_due(out, due),
         Some(Reason::Freed(page)) => write_freed(out, &page),
         Some(Reason::Taken(taken)) => write_taken(out, taken),
+        Some(Reason::Unfit { block, fault }) => write_unfit(out, &block, fault),
         None => out.write_all(words_of(promise).as_bytes()),
     }
 }
@@ -56,6 +58,25 @@ fn write_taken<W: Write>(out: &mut W, taken: TakenFrame) -> io::Result<()>
         out,
         "frame {frame} lies in the block of order {order} at frame {first}"
     )
+}
+
+/// Writes what keeps the reply's page block from being allocated.
+fn write_unfit<W: Write>(out: &mut W, block: &FrameBlock, fault: BlockFault) -> io::Result<()>
+    ensures { OnOk result (Appends (W.contents out.old) (W.contents out.new) (unfit_text block.now fault)) }
+{
+    let (first, order) = (block.first(), block.order());
+    match fault {
+        BlockFault::Misaligned => {
+            write!(out, "no block of order {order} begins at frame {first}")
+        }
+        BlockFault::Outside(slot) => {
+            write!(out, "frame {first} lies in slot {slot}, which is not held")
+        }
+        BlockFault::Slab { cache, place } => write!(
+            out,
+            "the block overlaps the slab of the object at {place} of cache {cache}"
+        ),
+    }
 }
 
 /// Returns the words for what a promise requires.

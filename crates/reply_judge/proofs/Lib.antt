@@ -8,6 +8,7 @@ pub mod KnownAfterAdmin
 pub mod HeldBytes
 pub mod ReplyVerdicts
 pub mod DueRefusals
+pub mod SlabsInWay
 pub mod Opening
 pub mod RowSums
 pub mod Lists

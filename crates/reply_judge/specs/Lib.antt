@@ -3,3 +3,4 @@ pub mod KnownMachine
 pub mod Adding
 pub mod Judged
 pub mod Due
+pub mod Faults

@@ -6,9 +6,11 @@ ghost use Rattle.model_core.specs.Operations.{overlaps};
 ghost use Rattle.std.specs.Option.{option_map_or};
 ghost use Rattle.promise_core.specs.State.{opening, Known};
 ghost use Rattle.reply_judge.specs.Due.{refusal_due};
+ghost use Rattle.reply_judge.specs.Faults.{block_fault};
 ghost use Rattle.reply_judge.specs.KnownMachine.{ShowsKnown};
 
 use crate::addressing::tenant_named;
+use crate::faults::BlockFault;
 use crate::tenant::Tenant;
 use known_holdings::FrameBlock;
 use model_core::owner::Owner;
@@ -91,6 +93,16 @@ impl KnownMachine {
         ensures { result ≡ option_map_or (λ y. find (λ b. b.first == frame) y.has.pages) (slice_get self.now.tenants tenant) None }
     {
         self.tenants.get(tenant as usize)?.page_at(frame)
+    }
+
+    /// Returns what keeps the block of the tenant from standing, if it shares no frame with a page block. Returns `None` if
+    /// nothing does, or if the tenant does not exist.
+    pub fn block_fault(&self, tenant: u32, block: &FrameBlock) -> Option<BlockFault>
+        ensures { result ≡ option_map_or (λ y. block_fault self.now.order y.has block.now) (slice_get self.now.tenants tenant) None }
+    {
+        self.tenants
+            .get(tenant as usize)?
+            .block_fault(self.order(), block)
     }
 
     /// Returns the refusal that the reply to the event has to be, if there is one.

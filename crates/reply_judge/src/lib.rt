@@ -9,6 +9,7 @@ mod administrator;
 mod bytes;
 mod caches;
 mod counts;
+mod faults;
 mod judging;
 mod known_machine;
 mod marks;
@@ -22,5 +23,6 @@ mod taken;
 mod tenant;
 mod verdict;
 
+pub use faults::BlockFault;
 pub use known_machine::KnownMachine;
 pub use verdict::Verdict;

@@ -1,8 +1,9 @@
 -- Why a reply breaks a promise, by what is known before the reply. For some promises, and for some replies, no reason is worked
 -- out.
-use Rattle.std.specs.Prelude.{◌≡◌, ◌==◌, ℕ, List, Option, Some, None, Result, Ok, Err, MatchOption, find, option_map, slice_get}
+use Rattle.std.specs.Prelude.{◌≡◌, ◌==◌, ℕ, nat_le, if◌then◌else◌, List, Option, Some, None, Result, Ok, Err, MatchOption, find, option_map, slice_get}
 use Rattle.std.specs.Option.{option_map_or}
-use Rattle.model_core.specs.Blocks.{Block}
+use Rattle.model_core.specs.Blocks.{Block, block}
+use Rattle.model_core.specs.declared.limits.TheConstants.{MAX_ORDER}
 use Rattle.words_core.specs.declared.reply.Body.{Body}
 use Rattle.words_core.specs.declared.event.Command.{Command}
 use Rattle.words_core.specs.declared.event.Event.{Event}
@@ -12,6 +13,7 @@ use Rattle.words_core.specs.Grammar.{reading_of}
 use Rattle.promise_core.specs.declared.promise.Promise.{Promise}
 use Rattle.promise_core.specs.State.{Known}
 use Rattle.reply_judge.specs.Due.{refusal_due}
+use Rattle.reply_judge.specs.Faults.{block_fault}
 use Rattle.trace_check.specs.Forms.{◌>>=◌}
 use Rattle.trace_check.specs.Gathered.{whole_of}
 use Rattle.trace_check.specs.Reading.{without_line_feed}
@@ -30,11 +32,18 @@ event_read (Err fault) = None
 abbrev pub answer_read : List ℕ → Option Reply
 answer_read text = whole_of MAX_TEXT_BYTES text >>= answer_of
 
--- the reason why the reply's page block may not be allocated: the live page block in the way, if there is one
+-- what keeps the reply's page block from being allocated, if it shares no frame with a page block
+abbrev pub unfit_block : Known → Event → Body → Option Reason
+unfit_block w (Event.Tenant t (Command.Alloc k)) (Body.Frame f) = if nat_le k MAX_ORDER
+    then option_map_or (λ s. option_map (λ fault. Reason.Unfit (block f k) fault) (block_fault w.order s.has (block f k))) (slice_get w.states t) None
+    else None
+unfit_block w event body = None
+
+-- the reason why the reply's page block may not be allocated: the live page block in the way, or else what `unfit_block` says
 pub record IsBlockReason (w : Known) (event : Event) (body : Body) (reason : Option Reason) : Type 0 where
   pub taken : Option TakenFrame
   pub in_way : IsInWay w event body taken
-  pub is : reason ≡ option_map (λ found. Reason.Taken found) taken
+  pub is : reason ≡ option_map_or (λ found. Some (Reason.Taken found)) taken (unfit_block w event body)
 
 -- the live page block that the event frees, if there is one
 abbrev pub page_freed : Known → Event → Option Block

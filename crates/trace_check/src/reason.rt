@@ -5,7 +5,7 @@ ghost use Rattle.words_core.specs.Requests.{body_of_answer};
 ghost use Rattle.promise_core.specs.State.{Known};
 ghost use Rattle.reply_judge.specs.KnownMachine.{ShowsKnown};
 ghost use Rattle.trace_check.specs.Gathered.{Gathers};
-ghost use Rattle.trace_check.specs.Reasons.{IsBlockReason, IsReason, IsReasonOf, answer_read, page_freed};
+ghost use Rattle.trace_check.specs.Reasons.{IsBlockReason, IsReason, IsReasonOf, answer_read, page_freed, unfit_block};
 ghost use Rattle.trace_check.specs.declared.reason.Reason.TheVariants as Why;
 
 use crate::answer::read_answer;
@@ -13,9 +13,9 @@ use crate::gathered::Gathered;
 use crate::shown::MAX_TEXT_BYTES;
 use crate::taken::{TakenFrame, taken_frame};
 use known_holdings::FrameBlock;
-use model_core::limits::MAX_BYTES;
+use model_core::limits::{MAX_BYTES, MAX_ORDER};
 use promise_core::promise::Promise;
-use reply_judge::KnownMachine;
+use reply_judge::{BlockFault, KnownMachine};
 use words_core::{Answer, Command, Event, Refusal};
 
 /// Why a reply breaks a promise.
@@ -27,6 +27,11 @@ pub enum Reason {
     Freed(FrameBlock),
     /// `Blocks`: a live page block has a frame of the reply's page block.
     Taken(TakenFrame),
+    /// `Blocks`: something else keeps the reply's page block from being allocated.
+    Unfit {
+        block: FrameBlock,
+        fault: BlockFault,
+    },
 }
 
 /// Returns why the reply to the event breaks the promise. `reply` has the bytes that were read as the reply. Returns `None` if no
@@ -91,12 +96,29 @@ fn freed_reason(machine: &KnownMachine, event: &Event) -> Option<Reason>
     }
 }
 
-/// Returns the live page block that has a frame of the answer's page block, if there is one.
+/// Returns why the answer's page block may not be allocated.
 fn block_reason(machine: &KnownMachine, event: &Event, answer: &Answer<'_>) -> Option<Reason>
     ensures { (w : Known) → ShowsKnown machine.now w → IsBlockReason w event.now (body_of_answer answer.now) result }
 {
     match taken_frame(machine, event, answer) {
         Some(taken) => Some(Reason::Taken(taken)),
-        None => None,
+        None => unfit_reason(machine, event, answer),
+    }
+}
+
+/// Returns what keeps the answer's page block from being allocated, if it shares no frame with a page block.
+fn unfit_reason(machine: &KnownMachine, event: &Event, answer: &Answer<'_>) -> Option<Reason>
+    ensures { (w : Known) → ShowsKnown machine.now w → result ≡ unfit_block w event.now (body_of_answer answer.now) }
+{
+    match (event, answer) {
+        (Event::Tenant(tenant, Command::Alloc { order }), Answer::Frame(frame)) => {
+            if *order > u32::from(MAX_ORDER) {
+                return None;
+            }
+            let block = FrameBlock::new(*frame, *order as u8);
+            let fault = machine.block_fault(*tenant, &block)?;
+            Some(Reason::Unfit { block, fault })
+        }
+        _ => None,
     }
 }

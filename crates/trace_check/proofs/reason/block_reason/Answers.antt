@@ -12,5 +12,5 @@ pub returns-in-None : goal.returns-in-None
 returns-in-None c w shown = record {
   taken = None;
   in_way = record { page = c.in-None.ensures.page w shown; frame = c.in-None.ensures.frame };
-  is = refl;
+  is = c.unfit_reason.ensures w shown;
 }
