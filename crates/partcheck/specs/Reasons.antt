@@ -1,6 +1,7 @@
 -- The words for why a promise is broken.
 use Rattle.std.specs.Prelude.{ℕ, List, ◌++◌, Option, Some, None, codes, decimal}
 use Rattle.model_core.specs.Blocks.{Block}
+use Rattle.model_core.specs.declared.owner.Owner.{Owner}
 use Rattle.promise_core.specs.declared.promise.Promise.{Promise}
 use Rattle.reply_judge.specs.declared.faults.BlockFault.{BlockFault}
 use Rattle.trace_check.specs.declared.reason.Reason.{Reason}
@@ -46,6 +47,19 @@ unfit_text b (BlockFault.Outside slot) =
 unfit_text b (BlockFault.Slab cache place) =
     codes "the block overlaps the slab of the object at " ++ (decimal place ++ (codes " of cache " ++ decimal cache))
 
+-- the words for the owner of a superblock
+abbrev pub owned_text : ℕ → Owner → List ℕ
+owned_text superblock owner = codes "superblock " ++ (decimal superblock ++ (codes " is slot " ++ (decimal owner.slot
+    ++ (codes " of tenant " ++ decimal owner.tenant))))
+
+-- the words for a superblock without an owner
+abbrev pub unowned_text : ℕ → List ℕ
+unowned_text superblock = codes "superblock " ++ (decimal superblock ++ codes " has no owner")
+
+-- the words for a superblock that does not exist
+abbrev pub missing_text : ℕ → List ℕ
+missing_text superblock = codes "there is no superblock " ++ decimal superblock
+
 -- the words for why a promise is broken, or for what the promise requires if no reason was worked out
 abbrev pub reason_text : Promise → Option Reason → List ℕ
 reason_text promise None = words_of_promise promise
@@ -53,3 +67,6 @@ reason_text promise (Some (Reason.Due due)) = due_text due
 reason_text promise (Some (Reason.Freed page)) = freed_text page
 reason_text promise (Some (Reason.Taken taken)) = taken_text taken
 reason_text promise (Some (Reason.Unfit block fault)) = unfit_text block fault
+reason_text promise (Some (Reason.Owned superblock owner)) = owned_text superblock owner
+reason_text promise (Some (Reason.Unowned superblock)) = unowned_text superblock
+reason_text promise (Some (Reason.Missing superblock)) = missing_text superblock

@@ -2,9 +2,11 @@
 
 ghost use Rattle.std.specs.Prelude.{◌≡◌, OnOk};
 ghost use Rattle.std.specs.Io.KnownBytes.{Appends};
-ghost use Rattle.partcheck.specs.Reasons.{due_text, freed_text, reason_text, taken_text, unfit_text, words_of_promise};
+ghost use Rattle.partcheck.specs.Reasons.{due_text, freed_text, missing_text, owned_text, reason_text, taken_text, unfit_text};
+ghost use Rattle.partcheck.specs.Reasons.{unowned_text, words_of_promise};
 
 use known_holdings::FrameBlock;
+use model_core::owner::Owner;
 use promise_core::promise::Promise;
 use reply_judge::BlockFault;
 use std::io::{self, Write};
@@ -24,6 +26,9 @@ pub(crate) fn write_reason<W: Write>(
         Some(Reason::Freed(page)) => write_freed(out, &page),
         Some(Reason::Taken(taken)) => write_taken(out, taken),
         Some(Reason::Unfit { block, fault }) => write_unfit(out, &block, fault),
+        Some(Reason::Owned { superblock, owner }) => write_owned(out, superblock, owner),
+        Some(Reason::Unowned(superblock)) => write_unowned(out, superblock),
+        Some(Reason::Missing(superblock)) => write_missing(out, superblock),
         None => out.write_all(words_of(promise).as_bytes()),
     }
 }
@@ -77,6 +82,31 @@ fn write_unfit<W: Write>(out: &mut W, block: &FrameBlock, fault: BlockFault) -> 
             "the block overlaps the slab of the object at {place} of cache {cache}"
         ),
     }
+}
+
+/// Writes who owns a superblock.
+fn write_owned<W: Write>(out: &mut W, superblock: u16, owner: Owner) -> io::Result<()>
+    ensures { OnOk result (Appends (W.contents out.old) (W.contents out.new) (owned_text superblock owner)) }
+{
+    let Owner { tenant, slot } = owner;
+    write!(
+        out,
+        "superblock {superblock} is slot {slot} of tenant {tenant}"
+    )
+}
+
+/// Writes that a superblock has no owner.
+fn write_unowned<W: Write>(out: &mut W, superblock: u16) -> io::Result<()>
+    ensures { OnOk result (Appends (W.contents out.old) (W.contents out.new) (unowned_text superblock)) }
+{
+    write!(out, "superblock {superblock} has no owner")
+}
+
+/// Writes that a superblock does not exist.
+fn write_missing<W: Write>(out: &mut W, superblock: u16) -> io::Result<()>
+    ensures { OnOk result (Appends (W.contents out.old) (W.contents out.new) (missing_text superblock)) }
+{
+    write!(out, "there is no superblock {superblock}")
 }
 
 /// Returns the words for what a promise requires.

@@ -105,6 +105,13 @@ impl KnownMachine {
             .block_fault(self.order(), block)
     }
 
+    /// Returns the owner of the superblock, if it has one. Returns `None` if the superblock does not exist.
+    pub fn owner_of(&self, superblock: u16) -> Option<Option<Owner>>
+        ensures { result ≡ slice_get self.now.owners superblock }
+    {
+        self.owners.get(usize::from(superblock)).copied()
+    }
+
     /// Returns the refusal that the reply to the event has to be, if there is one.
     pub fn due(&self, event: &Event) -> Option<Refusal>
         ensures { (w : Known) → ShowsKnown self.now w → result ≡ refusal_due w event.now }

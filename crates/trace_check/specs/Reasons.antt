@@ -4,6 +4,8 @@ use Rattle.std.specs.Prelude.{◌≡◌, ◌==◌, ℕ, nat_le, if◌then◌else
 use Rattle.std.specs.Option.{option_map_or}
 use Rattle.model_core.specs.Blocks.{Block, block}
 use Rattle.model_core.specs.declared.limits.TheConstants.{MAX_ORDER}
+use Rattle.model_core.specs.declared.owner.Owner.{Owner}
+use Rattle.words_core.specs.declared.event.AdminCommand.{AdminCommand}
 use Rattle.words_core.specs.declared.reply.Body.{Body}
 use Rattle.words_core.specs.declared.event.Command.{Command}
 use Rattle.words_core.specs.declared.event.Event.{Event}
@@ -51,10 +53,30 @@ page_freed w (Event.Tenant t (Command.Free f)) =
     option_map_or (λ s. find (λ b. b.first == f) s.has.pages) (slice_get w.states t) None
 page_freed w event = None
 
+-- why a tenant may not get superblock m, which has this owner
+abbrev pub not_gained : ℕ → Option (Option Owner) → Option Reason
+not_gained m None = Some (Reason.Missing m)
+not_gained m (Some None) = None
+not_gained m (Some (Some owner)) = Some (Reason.Owned m owner)
+
+-- why a tenant may not lose superblock m, which has this owner
+abbrev pub not_lost : ℕ → Option (Option Owner) → Option Reason
+not_lost m None = Some (Reason.Missing m)
+not_lost m (Some None) = Some (Reason.Unowned m)
+not_lost m (Some (Some owner)) = Some (Reason.Owned m owner)
+
+-- the owner of the superblock that the reply reports, if a tenant may not get it or lose it
+abbrev pub owner_in_way : Known → Event → Body → Option Reason
+owner_in_way w (Event.Admin (AdminCommand.Grant t)) (Body.Granted named u m) = not_gained m (slice_get w.owners m)
+owner_in_way w (Event.Admin (AdminCommand.Move t u)) (Body.Moved named slot m) = not_gained m (slice_get w.owners m)
+owner_in_way w (Event.Admin (AdminCommand.TakeBack t u)) (Body.TakenBack m) = not_lost m (slice_get w.owners m)
+owner_in_way w event body = None
+
 -- the reason why a reply of one line breaks this promise; for Gives it is the page block that is freed, if the event is a free
 abbrev pub IsReasonOf : Promise → Known → Event → Body → Option Reason → Type 0
 IsReasonOf Promise.Blocks w event body reason = IsBlockReason w event body reason
 IsReasonOf Promise.Gives w event body reason = reason ≡ option_map (λ page. Reason.Freed page) (page_freed w event)
+IsReasonOf Promise.Owners w event body reason = reason ≡ owner_in_way w event body
 IsReasonOf promise w event body reason = reason ≡ None
 
 -- The reason why the reply breaks this promise: for Refusals the refusal that was due. `reply` is None if the reply is not a

@@ -1,11 +1,12 @@
 //! Why a reply breaks a promise.
 
-ghost use Rattle.std.specs.Prelude.{◌≡◌, ℕ, List, None, MatchOption, option_map};
+ghost use Rattle.std.specs.Prelude.{◌≡◌, ℕ, List, None, MatchOption, option_map, slice_get};
 ghost use Rattle.words_core.specs.Requests.{body_of_answer};
 ghost use Rattle.promise_core.specs.State.{Known};
 ghost use Rattle.reply_judge.specs.KnownMachine.{ShowsKnown};
 ghost use Rattle.trace_check.specs.Gathered.{Gathers};
-ghost use Rattle.trace_check.specs.Reasons.{IsBlockReason, IsReason, IsReasonOf, answer_read, page_freed, unfit_block};
+ghost use Rattle.trace_check.specs.Reasons.{IsBlockReason, IsReason, IsReasonOf, answer_read, not_gained, not_lost, owner_in_way};
+ghost use Rattle.trace_check.specs.Reasons.{page_freed, unfit_block};
 ghost use Rattle.trace_check.specs.declared.reason.Reason.TheVariants as Why;
 
 use crate::answer::read_answer;
@@ -14,9 +15,10 @@ use crate::shown::MAX_TEXT_BYTES;
 use crate::taken::{TakenFrame, taken_frame};
 use known_holdings::FrameBlock;
 use model_core::limits::{MAX_BYTES, MAX_ORDER};
+use model_core::owner::Owner;
 use promise_core::promise::Promise;
 use reply_judge::{BlockFault, KnownMachine};
-use words_core::{Answer, Command, Event, Refusal};
+use words_core::{AdminCommand, Answer, Command, Event, Refusal};
 
 /// Why a reply breaks a promise.
 #[derive(Clone, Copy, Debug)]
@@ -32,6 +34,15 @@ pub enum Reason {
         block: FrameBlock,
         fault: BlockFault,
     },
+    /// `Owners`: the reply's superblock has this owner.
+    Owned {
+        superblock: u16,
+        owner: Owner,
+    },
+    /// `Owners`: the reply's superblock has no owner.
+    Unowned(u16),
+    /// `Owners`: the reply's superblock does not exist.
+    Missing(u16),
 }
 
 /// Returns why the reply to the event breaks the promise. `reply` has the bytes that were read as the reply. Returns `None` if no
@@ -79,6 +90,7 @@ fn reason_in_answer(
     match promise {
         Promise::Blocks => block_reason(machine, event, answer),
         Promise::Gives => freed_reason(machine, event),
+        Promise::Owners => owner_reason(machine, event, answer),
         _ => None,
     }
 }
@@ -120,5 +132,45 @@ fn unfit_reason(machine: &KnownMachine, event: &Event, answer: &Answer<'_>) -> O
             Some(Reason::Unfit { block, fault })
         }
         _ => None,
+    }
+}
+
+/// Returns the owner of the superblock that the answer reports, if a tenant may not get it or lose it.
+fn owner_reason(machine: &KnownMachine, event: &Event, answer: &Answer<'_>) -> Option<Reason>
+    ensures { (w : Known) → ShowsKnown machine.now w → result ≡ owner_in_way w event.now (body_of_answer answer.now) }
+{
+    match (event, answer) {
+        (Event::Admin(AdminCommand::Grant { .. }), Answer::Granted { superblock, .. }) => {
+            not_gained(machine, *superblock)
+        }
+        (Event::Admin(AdminCommand::Move { .. }), Answer::Moved { superblock, .. }) => {
+            not_gained(machine, *superblock)
+        }
+        (Event::Admin(AdminCommand::TakeBack { .. }), Answer::TakenBack(superblock)) => {
+            not_lost(machine, *superblock)
+        }
+        _ => None,
+    }
+}
+
+/// Returns why a tenant may not get the superblock.
+fn not_gained(machine: &KnownMachine, superblock: u16) -> Option<Reason>
+    ensures { (w : Known) → ShowsKnown machine.now w → result ≡ not_gained superblock (slice_get w.owners superblock) }
+{
+    match machine.owner_of(superblock) {
+        Some(Some(owner)) => Some(Reason::Owned { superblock, owner }),
+        Some(None) => None,
+        None => Some(Reason::Missing(superblock)),
+    }
+}
+
+/// Returns why a tenant may not lose the superblock.
+fn not_lost(machine: &KnownMachine, superblock: u16) -> Option<Reason>
+    ensures { (w : Known) → ShowsKnown machine.now w → result ≡ not_lost superblock (slice_get w.owners superblock) }
+{
+    match machine.owner_of(superblock) {
+        Some(Some(owner)) => Some(Reason::Owned { superblock, owner }),
+        Some(None) => Some(Reason::Unowned(superblock)),
+        None => Some(Reason::Missing(superblock)),
     }
 }
