@@ -1,9 +1,10 @@
 -- The words for why a promise is broken.
-use Rattle.std.specs.Prelude.{ℕ, List, ◌++◌, Option, Some, None, codes, decimal}
+use Rattle.std.specs.Prelude.{ℕ, ◌+◌, ◌-◌, ◌/◌, ◌%◌, nat_lt, if◌then◌else◌, List, [], ◌∷◌, ◌++◌, Option, Some, None, codes, decimal}
 use Rattle.model_core.specs.Blocks.{Block}
 use Rattle.model_core.specs.declared.owner.Owner.{Owner}
 use Rattle.promise_core.specs.declared.promise.Promise.{Promise}
 use Rattle.reply_judge.specs.declared.faults.BlockFault.{BlockFault}
+use Rattle.reply_judge.specs.declared.wrong_bytes.WrongByte.{WrongByte}
 use Rattle.trace_check.specs.declared.reason.Reason.{Reason}
 use Rattle.trace_check.specs.declared.taken.TakenFrame.{TakenFrame}
 use Rattle.words_core.specs.Texts.{name_of_refusal, number_of_refusal}
@@ -60,6 +61,28 @@ unowned_text superblock = codes "superblock " ++ (decimal superblock ++ codes " 
 abbrev pub missing_text : ℕ → List ℕ
 missing_text superblock = codes "there is no superblock " ++ decimal superblock
 
+-- the digit of a number below 16 in hex: `0` is 48, and `a` is 97
+abbrev pub hex_digit : ℕ → ℕ
+hex_digit number = if nat_lt number 10 then 48 + number else 97 + (number - 10)
+
+-- a byte in hex, as a reply has it
+abbrev pub hex_text : ℕ → List ℕ
+hex_text byte = hex_digit (byte / 16) ∷ hex_digit (byte % 16) ∷ []
+
+-- the bytes that are due at a place
+abbrev pub due_bytes_text : ℕ → Option ℕ → List ℕ
+due_bytes_text due None = hex_text due
+due_bytes_text due (Some fresh) = hex_text due ++ (codes " or " ++ hex_text fresh)
+
+-- the words for a wrong byte
+abbrev pub wrong_text : WrongByte → List ℕ
+wrong_text wrong = codes "the byte at " ++ (decimal wrong.place ++ (codes " has to be " ++ (due_bytes_text wrong.due wrong.or_fresh
+    ++ (codes ", not " ++ hex_text wrong.byte))))
+
+-- the words for the number of bytes that the reply has to have or to report
+abbrev pub count_text : ℕ → List ℕ
+count_text count = codes "the number of bytes has to be " ++ decimal count
+
 -- the words for why a promise is broken, or for what the promise requires if no reason was worked out
 abbrev pub reason_text : Promise → Option Reason → List ℕ
 reason_text promise None = words_of_promise promise
@@ -70,3 +93,5 @@ reason_text promise (Some (Reason.Unfit block fault)) = unfit_text block fault
 reason_text promise (Some (Reason.Owned superblock owner)) = owned_text superblock owner
 reason_text promise (Some (Reason.Unowned superblock)) = unowned_text superblock
 reason_text promise (Some (Reason.Missing superblock)) = missing_text superblock
+reason_text promise (Some (Reason.Wrong wrong)) = wrong_text wrong
+reason_text promise (Some (Reason.Count count)) = count_text count

@@ -1,14 +1,15 @@
 //! Writes why a promise is broken.
 
-ghost use Rattle.std.specs.Prelude.{◌≡◌, OnOk};
+ghost use Rattle.std.specs.Prelude.{◌≡◌, ◌<◌, OnOk, Some};
 ghost use Rattle.std.specs.Io.KnownBytes.{Appends};
-ghost use Rattle.partcheck.specs.Reasons.{due_text, freed_text, missing_text, owned_text, reason_text, taken_text, unfit_text};
-ghost use Rattle.partcheck.specs.Reasons.{unowned_text, words_of_promise};
+ghost use Rattle.partcheck.specs.Reasons.{count_text, due_bytes_text, due_text, freed_text, hex_digit, hex_text, missing_text};
+ghost use Rattle.partcheck.specs.Reasons.{owned_text, reason_text, taken_text, unfit_text, unowned_text, words_of_promise};
+ghost use Rattle.partcheck.specs.Reasons.{wrong_text};
 
 use known_holdings::FrameBlock;
 use model_core::owner::Owner;
 use promise_core::promise::Promise;
-use reply_judge::BlockFault;
+use reply_judge::{BlockFault, WrongByte};
 use std::io::{self, Write};
 use trace_check::{Reason, TakenFrame};
 use words_core::Refusal;
@@ -29,6 +30,8 @@ pub(crate) fn write_reason<W: Write>(
         Some(Reason::Owned { superblock, owner }) => write_owned(out, superblock, owner),
         Some(Reason::Unowned(superblock)) => write_unowned(out, superblock),
         Some(Reason::Missing(superblock)) => write_missing(out, superblock),
+        Some(Reason::Wrong(wrong)) => write_wrong(out, &wrong),
+        Some(Reason::Count(count)) => write_count(out, count),
         None => out.write_all(words_of(promise).as_bytes()),
     }
 }
@@ -107,6 +110,61 @@ fn write_missing<W: Write>(out: &mut W, superblock: u16) -> io::Result<()>
     ensures { OnOk result (Appends (W.contents out.old) (W.contents out.new) (missing_text superblock)) }
 {
     write!(out, "there is no superblock {superblock}")
+}
+
+/// Writes which byte is wrong, and what it has to be.
+fn write_wrong<W: Write>(out: &mut W, wrong: &WrongByte) -> io::Result<()>
+    ensures { OnOk result (Appends (W.contents out.old) (W.contents out.new) (wrong_text wrong.now)) }
+{
+    let place = wrong.place;
+    write!(out, "the byte at {place} has to be ")?;
+    write_due_bytes(out, wrong.due, wrong.or_fresh)?;
+    out.write_all(b", not ")?;
+    write_hex(out, wrong.byte)
+}
+
+/// Writes the one or two bytes that are due at a place.
+fn write_due_bytes<W: Write>(out: &mut W, due: u8, or_fresh: Option<u8>) -> io::Result<()>
+    ensures { OnOk result (Appends (W.contents out.old) (W.contents out.new) (due_bytes_text due or_fresh)) }
+{
+    match or_fresh {
+        Some(fresh) => write_either(out, due, fresh),
+        None => write_hex(out, due),
+    }
+}
+
+fn write_either<W: Write>(out: &mut W, due: u8, fresh: u8) -> io::Result<()>
+    ensures { OnOk result (Appends (W.contents out.old) (W.contents out.new) (due_bytes_text due (Some fresh))) }
+{
+    write_hex(out, due)?;
+    out.write_all(b" or ")?;
+    write_hex(out, fresh)
+}
+
+/// Writes a byte in hex, as a reply has it.
+fn write_hex<W: Write>(out: &mut W, byte: u8) -> io::Result<()>
+    ensures { OnOk result (Appends (W.contents out.old) (W.contents out.new) (hex_text byte)) }
+{
+    out.write_all(&[hex_digit(byte / 16), hex_digit(byte % 16)])
+}
+
+/// Returns the digit of a number below 16 in hex.
+fn hex_digit(number: u8) -> u8
+    requires { number < 16 }
+    ensures { result ≡ hex_digit number }
+{
+    if number < 10 {
+        b'0' + number
+    } else {
+        b'a' + (number - 10)
+    }
+}
+
+/// Writes how many bytes the reply has to have or to report.
+fn write_count<W: Write>(out: &mut W, count: u32) -> io::Result<()>
+    ensures { OnOk result (Appends (W.contents out.old) (W.contents out.new) (count_text count)) }
+{
+    write!(out, "the number of bytes has to be {count}")
 }
 
 /// Returns the words for what a promise requires.

@@ -1,6 +1,6 @@
 //! Writes the line of a finding.
 
-ghost use Rattle.std.specs.Prelude.{◌≡◌, ℕ, List, OnOk, flat_map, option_copied, take};
+ghost use Rattle.std.specs.Prelude.{◌≡◌, ℕ, List, OnOk, Some, flat_map, option_copied, take};
 ghost use Rattle.std.specs.Char.Escape.{escape_ascii};
 ghost use Rattle.std.specs.Io.KnownBytes.{Appends};
 ghost use Rattle.std.specs.List.{list_all};

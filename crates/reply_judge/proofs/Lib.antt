@@ -9,6 +9,7 @@ pub mod HeldBytes
 pub mod ReplyVerdicts
 pub mod DueRefusals
 pub mod SlabsInWay
+pub mod WrongBytesInTurn
 pub mod Opening
 pub mod RowSums
 pub mod Lists

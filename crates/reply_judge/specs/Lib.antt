@@ -4,3 +4,4 @@ pub mod Adding
 pub mod Judged
 pub mod Due
 pub mod Faults
+pub mod WrongBytes

@@ -7,11 +7,14 @@ ghost use Rattle.std.specs.Option.{option_map_or};
 ghost use Rattle.promise_core.specs.State.{opening, Known};
 ghost use Rattle.reply_judge.specs.Due.{refusal_due};
 ghost use Rattle.reply_judge.specs.Faults.{block_fault};
+ghost use Rattle.reply_judge.specs.WrongBytes.{wrong_byte};
+ghost use Rattle.shadow_memory.specs.Left.{left_at};
 ghost use Rattle.reply_judge.specs.KnownMachine.{ShowsKnown};
 
 use crate::addressing::tenant_named;
 use crate::faults::BlockFault;
 use crate::tenant::Tenant;
+use crate::wrong_bytes::WrongByte;
 use known_holdings::FrameBlock;
 use model_core::owner::Owner;
 use std::alloc::{AllocError, Global};
@@ -110,6 +113,17 @@ impl KnownMachine {
         ensures { result ≡ slice_get self.now.owners superblock }
     {
         self.owners.get(usize::from(superblock)).copied()
+    }
+
+    /// Returns the first wrong byte of a tenant's read of `len` bytes that begins at `place`. Returns `None` if no byte is wrong,
+    /// if no holder has all of these bytes, or if the tenant does not exist.
+    pub fn wrong_byte(&self, tenant: u32, place: u32, len: u32, bytes: &[u8]) -> Option<WrongByte>
+        ensures { result ≡ option_map_or (λ y. wrong_byte y.has (left_at y.left) place len bytes.now)
+            (slice_get self.now.tenants tenant) None }
+    {
+        self.tenants
+            .get(tenant as usize)?
+            .wrong_byte(place, len, bytes)
     }
 
     /// Returns the refusal that the reply to the event has to be, if there is one.

@@ -22,7 +22,9 @@ mod rows;
 mod taken;
 mod tenant;
 mod verdict;
+mod wrong_bytes;
 
 pub use faults::BlockFault;
 pub use known_machine::KnownMachine;
 pub use verdict::Verdict;
+pub use wrong_bytes::WrongByte;

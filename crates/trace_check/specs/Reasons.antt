@@ -1,6 +1,6 @@
 -- Why a reply breaks a promise, by what is known before the reply. For some promises, and for some replies, no reason is worked
 -- out.
-use Rattle.std.specs.Prelude.{◌≡◌, ◌==◌, ℕ, nat_le, if◌then◌else◌, List, Option, Some, None, Result, Ok, Err, MatchOption, find, option_map, slice_get}
+use Rattle.std.specs.Prelude.{◌≡◌, ◌==◌, ℕ, nat_le, if◌then◌else◌, List, length, Option, Some, None, Result, Ok, Err, MatchOption, find, option_map, slice_get}
 use Rattle.std.specs.Option.{option_map_or}
 use Rattle.model_core.specs.Blocks.{Block, block}
 use Rattle.model_core.specs.declared.limits.TheConstants.{MAX_ORDER}
@@ -16,6 +16,7 @@ use Rattle.promise_core.specs.declared.promise.Promise.{Promise}
 use Rattle.promise_core.specs.State.{Known}
 use Rattle.reply_judge.specs.Due.{refusal_due}
 use Rattle.reply_judge.specs.Faults.{block_fault}
+use Rattle.reply_judge.specs.WrongBytes.{wrong_byte}
 use Rattle.trace_check.specs.Forms.{◌>>=◌}
 use Rattle.trace_check.specs.Gathered.{whole_of}
 use Rattle.trace_check.specs.Reading.{without_line_feed}
@@ -72,11 +73,21 @@ owner_in_way w (Event.Admin (AdminCommand.Move t u)) (Body.Moved named slot m) =
 owner_in_way w (Event.Admin (AdminCommand.TakeBack t u)) (Body.TakenBack m) = not_lost m (slice_get w.owners m)
 owner_in_way w event body = None
 
+-- What is wrong with the bytes of the reply: how many bytes the command has, if the reply to a read has another number, or reports
+-- another number to a write; otherwise the first wrong byte of a read.
+abbrev pub bytes_wrong : Known → Event → Body → Option Reason
+bytes_wrong w (Event.Tenant t (Command.Read place len)) (Body.Bytes read) = if length read.items == len
+    then option_map_or (λ s. option_map (λ wrong. Reason.Wrong wrong) (wrong_byte s.has s.cells place len read.items)) (slice_get w.states t) None
+    else Some (Reason.Count len)
+bytes_wrong w (Event.Tenant t (Command.Write place new)) (Body.Written n) = Some (Reason.Count (length new.items))
+bytes_wrong w event body = None
+
 -- the reason why a reply of one line breaks this promise; for Gives it is the page block that is freed, if the event is a free
 abbrev pub IsReasonOf : Promise → Known → Event → Body → Option Reason → Type 0
 IsReasonOf Promise.Blocks w event body reason = IsBlockReason w event body reason
 IsReasonOf Promise.Gives w event body reason = reason ≡ option_map (λ page. Reason.Freed page) (page_freed w event)
 IsReasonOf Promise.Owners w event body reason = reason ≡ owner_in_way w event body
+IsReasonOf Promise.Bytes w event body reason = reason ≡ bytes_wrong w event body
 IsReasonOf promise w event body reason = reason ≡ None
 
 -- The reason why the reply breaks this promise: for Refusals the refusal that was due. `reply` is None if the reply is not a

@@ -5,7 +5,7 @@ ghost use Rattle.words_core.specs.Requests.{body_of_answer};
 ghost use Rattle.promise_core.specs.State.{Known};
 ghost use Rattle.reply_judge.specs.KnownMachine.{ShowsKnown};
 ghost use Rattle.trace_check.specs.Gathered.{Gathers};
-ghost use Rattle.trace_check.specs.Reasons.{IsBlockReason, IsReason, IsReasonOf, answer_read, not_gained, not_lost, owner_in_way};
+ghost use Rattle.trace_check.specs.Reasons.{IsBlockReason, IsReason, IsReasonOf, answer_read, bytes_wrong, not_gained, not_lost, owner_in_way};
 ghost use Rattle.trace_check.specs.Reasons.{page_freed, unfit_block};
 ghost use Rattle.trace_check.specs.declared.reason.Reason.TheVariants as Why;
 
@@ -17,7 +17,7 @@ use known_holdings::FrameBlock;
 use model_core::limits::{MAX_BYTES, MAX_ORDER};
 use model_core::owner::Owner;
 use promise_core::promise::Promise;
-use reply_judge::{BlockFault, KnownMachine};
+use reply_judge::{BlockFault, KnownMachine, WrongByte};
 use words_core::{AdminCommand, Answer, Command, Event, Refusal};
 
 /// Why a reply breaks a promise.
@@ -43,6 +43,10 @@ pub enum Reason {
     Unowned(u16),
     /// `Owners`: the reply's superblock does not exist.
     Missing(u16),
+    /// `Bytes`: the reply to a read has this wrong byte.
+    Wrong(WrongByte),
+    /// `Bytes`: the command has this number of bytes.
+    Count(u32),
 }
 
 /// Returns why the reply to the event breaks the promise. `reply` has the bytes that were read as the reply. Returns `None` if no
@@ -91,6 +95,7 @@ fn reason_in_answer(
         Promise::Blocks => block_reason(machine, event, answer),
         Promise::Gives => freed_reason(machine, event),
         Promise::Owners => owner_reason(machine, event, answer),
+        Promise::Bytes => bytes_reason(machine, event, answer),
         _ => None,
     }
 }
@@ -172,5 +177,24 @@ fn not_lost(machine: &KnownMachine, superblock: u16) -> Option<Reason>
         Some(Some(owner)) => Some(Reason::Owned { superblock, owner }),
         Some(None) => Some(Reason::Unowned(superblock)),
         None => Some(Reason::Missing(superblock)),
+    }
+}
+
+/// Returns what is wrong with the bytes of the answer, or with their number.
+fn bytes_reason(machine: &KnownMachine, event: &Event, answer: &Answer<'_>) -> Option<Reason>
+    ensures { (w : Known) → ShowsKnown machine.now w → result ≡ bytes_wrong w event.now (body_of_answer answer.now) }
+{
+    match (event, answer) {
+        (Event::Tenant(tenant, Command::Read { place, len }), Answer::Bytes(bytes)) => {
+            if bytes.len() != *len as usize {
+                return Some(Reason::Count(*len));
+            }
+            let wrong = machine.wrong_byte(*tenant, *place, *len, bytes)?;
+            Some(Reason::Wrong(wrong))
+        }
+        (Event::Tenant(_, Command::Write { bytes, .. }), Answer::Written(_)) => {
+            Some(Reason::Count(bytes.len() as u32))
+        }
+        _ => None,
     }
 }
