@@ -4,6 +4,7 @@ use Rattle.model_core.specs.Blocks.{Block}
 use Rattle.model_core.specs.declared.owner.Owner.{Owner}
 use Rattle.promise_core.specs.declared.promise.Promise.{Promise}
 use Rattle.reply_judge.specs.declared.faults.BlockFault.{BlockFault}
+use Rattle.reply_judge.specs.declared.faults.ObjectFault.{ObjectFault}
 use Rattle.reply_judge.specs.declared.wrong_bytes.WrongByte.{WrongByte}
 use Rattle.trace_check.specs.declared.reason.Reason.{Reason}
 use Rattle.trace_check.specs.declared.taken.TakenFrame.{TakenFrame}
@@ -45,8 +46,8 @@ abbrev pub unfit_text : Block → BlockFault → List ℕ
 unfit_text b BlockFault.Misaligned = codes "no block of order " ++ (decimal b.order ++ (codes " begins at frame " ++ decimal b.first))
 unfit_text b (BlockFault.Outside slot) =
     codes "frame " ++ (decimal b.first ++ (codes " lies in slot " ++ (decimal slot ++ codes ", which is not held")))
-unfit_text b (BlockFault.Slab cache place) =
-    codes "the block overlaps the slab of the object at " ++ (decimal place ++ (codes " of cache " ++ decimal cache))
+unfit_text b (BlockFault.Slab cache place) = codes "the block at frame " ++ (decimal b.first
+    ++ (codes " overlaps the slab of the object at " ++ (decimal place ++ (codes " of cache " ++ decimal cache))))
 
 -- the words for the owner of a superblock
 abbrev pub owned_text : ℕ → Owner → List ℕ
@@ -83,6 +84,18 @@ wrong_text wrong = codes "the byte at " ++ (decimal wrong.place ++ (codes " has 
 abbrev pub count_text : ℕ → List ℕ
 count_text count = codes "the number of bytes has to be " ++ decimal count
 
+-- the words for a page block that the slab of an object would overlap
+abbrev pub slab_over_text : Block → List ℕ
+slab_over_text page = codes "the slab overlaps the block of order " ++ (decimal page.order ++ (codes " at frame " ++ decimal page.first))
+
+-- the words for what keeps the object at the place from being taken
+abbrev pub object_text : ℕ → ObjectFault → List ℕ
+object_text place ObjectFault.Misaligned = codes "place " ++ (decimal place ++ codes " is not a multiple of the alignment")
+object_text place (ObjectFault.Page page) = slab_over_text page
+object_text place (ObjectFault.Unfit slab fault) = unfit_text slab fault
+object_text place (ObjectFault.Over other) = codes "the object overlaps the one at " ++ decimal other
+object_text place ObjectFault.Full = codes "all objects of the slab are live"
+
 -- the words for why a promise is broken, or for what the promise requires if no reason was worked out
 abbrev pub reason_text : Promise → Option Reason → List ℕ
 reason_text promise None = words_of_promise promise
@@ -95,3 +108,4 @@ reason_text promise (Some (Reason.Unowned superblock)) = unowned_text superblock
 reason_text promise (Some (Reason.Missing superblock)) = missing_text superblock
 reason_text promise (Some (Reason.Wrong wrong)) = wrong_text wrong
 reason_text promise (Some (Reason.Count count)) = count_text count
+reason_text promise (Some (Reason.Object place fault)) = object_text place fault

@@ -3,13 +3,13 @@
 ghost use Rattle.std.specs.Prelude.{◌≡◌, ◌<◌, OnOk, Some};
 ghost use Rattle.std.specs.Io.KnownBytes.{Appends};
 ghost use Rattle.partcheck.specs.Reasons.{count_text, due_bytes_text, due_text, freed_text, hex_digit, hex_text, missing_text};
-ghost use Rattle.partcheck.specs.Reasons.{owned_text, reason_text, taken_text, unfit_text, unowned_text, words_of_promise};
-ghost use Rattle.partcheck.specs.Reasons.{wrong_text};
+ghost use Rattle.partcheck.specs.Reasons.{object_text, owned_text, reason_text, slab_over_text, taken_text, unfit_text};
+ghost use Rattle.partcheck.specs.Reasons.{unowned_text, words_of_promise, wrong_text};
 
 use known_holdings::FrameBlock;
 use model_core::owner::Owner;
 use promise_core::promise::Promise;
-use reply_judge::{BlockFault, WrongByte};
+use reply_judge::{BlockFault, ObjectFault, WrongByte};
 use std::io::{self, Write};
 use trace_check::{Reason, TakenFrame};
 use words_core::Refusal;
@@ -32,6 +32,7 @@ pub(crate) fn write_reason<W: Write>(
         Some(Reason::Missing(superblock)) => write_missing(out, superblock),
         Some(Reason::Wrong(wrong)) => write_wrong(out, &wrong),
         Some(Reason::Count(count)) => write_count(out, count),
+        Some(Reason::Object { place, fault }) => write_object(out, place, fault),
         None => out.write_all(words_of(promise).as_bytes()),
     }
 }
@@ -82,7 +83,7 @@ fn write_unfit<W: Write>(out: &mut W, block: &FrameBlock, fault: BlockFault) -> 
         }
         BlockFault::Slab { cache, place } => write!(
             out,
-            "the block overlaps the slab of the object at {place} of cache {cache}"
+            "the block at frame {first} overlaps the slab of the object at {place} of cache {cache}"
         ),
     }
 }
@@ -165,6 +166,30 @@ fn write_count<W: Write>(out: &mut W, count: u32) -> io::Result<()>
     ensures { OnOk result (Appends (W.contents out.old) (W.contents out.new) (count_text count)) }
 {
     write!(out, "the number of bytes has to be {count}")
+}
+
+/// Writes what keeps the object at the place from being taken.
+fn write_object<W: Write>(out: &mut W, place: u32, fault: ObjectFault) -> io::Result<()>
+    ensures { OnOk result (Appends (W.contents out.old) (W.contents out.new) (object_text place fault)) }
+{
+    match fault {
+        ObjectFault::Misaligned => write!(out, "place {place} is not a multiple of the alignment"),
+        ObjectFault::Page(page) => write_slab_over(out, &page),
+        ObjectFault::Unfit { slab, fault } => write_unfit(out, &slab, fault),
+        ObjectFault::Over(other) => write!(out, "the object overlaps the one at {other}"),
+        ObjectFault::Full => out.write_all(b"all objects of the slab are live"),
+    }
+}
+
+/// Writes that the slab of an object would overlap this page block.
+fn write_slab_over<W: Write>(out: &mut W, page: &FrameBlock) -> io::Result<()>
+    ensures { OnOk result (Appends (W.contents out.old) (W.contents out.new) (slab_over_text page.now)) }
+{
+    let (order, first) = (page.order(), page.first());
+    write!(
+        out,
+        "the slab overlaps the block of order {order} at frame {first}"
+    )
 }
 
 /// Returns the words for what a promise requires.

@@ -6,13 +6,13 @@ ghost use Rattle.model_core.specs.Operations.{overlaps};
 ghost use Rattle.std.specs.Option.{option_map_or};
 ghost use Rattle.promise_core.specs.State.{opening, Known};
 ghost use Rattle.reply_judge.specs.Due.{refusal_due};
-ghost use Rattle.reply_judge.specs.Faults.{block_fault};
+ghost use Rattle.reply_judge.specs.Faults.{block_fault, object_fault};
 ghost use Rattle.reply_judge.specs.WrongBytes.{wrong_byte};
 ghost use Rattle.shadow_memory.specs.Left.{left_at};
 ghost use Rattle.reply_judge.specs.KnownMachine.{ShowsKnown};
 
 use crate::addressing::tenant_named;
-use crate::faults::BlockFault;
+use crate::faults::{BlockFault, ObjectFault};
 use crate::tenant::Tenant;
 use crate::wrong_bytes::WrongByte;
 use known_holdings::FrameBlock;
@@ -124,6 +124,16 @@ impl KnownMachine {
         self.tenants
             .get(tenant as usize)?
             .wrong_byte(place, len, bytes)
+    }
+
+    /// Returns what keeps an object of a tenant's cache from being taken at the place. Returns `None` if nothing is found, or if the
+    /// tenant or the cache does not exist.
+    pub fn object_fault(&self, tenant: u32, cache: u32, place: u32) -> Option<ObjectFault>
+        ensures { result ≡ option_map_or (λ y. object_fault self.now.order y.has cache place) (slice_get self.now.tenants tenant) None }
+    {
+        self.tenants
+            .get(tenant as usize)?
+            .object_fault(self.order(), cache, place)
     }
 
     /// Returns the refusal that the reply to the event has to be, if there is one.

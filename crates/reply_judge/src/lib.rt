@@ -24,7 +24,7 @@ mod tenant;
 mod verdict;
 mod wrong_bytes;
 
-pub use faults::BlockFault;
+pub use faults::{BlockFault, ObjectFault};
 pub use known_machine::KnownMachine;
 pub use verdict::Verdict;
 pub use wrong_bytes::WrongByte;

@@ -15,7 +15,7 @@ use Rattle.words_core.specs.Grammar.{reading_of}
 use Rattle.promise_core.specs.declared.promise.Promise.{Promise}
 use Rattle.promise_core.specs.State.{Known}
 use Rattle.reply_judge.specs.Due.{refusal_due}
-use Rattle.reply_judge.specs.Faults.{block_fault}
+use Rattle.reply_judge.specs.Faults.{block_fault, object_fault}
 use Rattle.reply_judge.specs.WrongBytes.{wrong_byte}
 use Rattle.trace_check.specs.Forms.{◌>>=◌}
 use Rattle.trace_check.specs.Gathered.{whole_of}
@@ -82,12 +82,19 @@ bytes_wrong w (Event.Tenant t (Command.Read place len)) (Body.Bytes read) = if l
 bytes_wrong w (Event.Tenant t (Command.Write place new)) (Body.Written n) = Some (Reason.Count (length new.items))
 bytes_wrong w event body = None
 
+-- what keeps the reply's object from being taken
+abbrev pub unfit_object : Known → Event → Body → Option Reason
+unfit_object w (Event.Tenant t (Command.Take number)) (Body.Object place) =
+    option_map_or (λ s. option_map (λ fault. Reason.Object place fault) (object_fault w.order s.has number place)) (slice_get w.states t) None
+unfit_object w event body = None
+
 -- the reason why a reply of one line breaks this promise; for Gives it is the page block that is freed, if the event is a free
 abbrev pub IsReasonOf : Promise → Known → Event → Body → Option Reason → Type 0
 IsReasonOf Promise.Blocks w event body reason = IsBlockReason w event body reason
 IsReasonOf Promise.Gives w event body reason = reason ≡ option_map (λ page. Reason.Freed page) (page_freed w event)
 IsReasonOf Promise.Owners w event body reason = reason ≡ owner_in_way w event body
 IsReasonOf Promise.Bytes w event body reason = reason ≡ bytes_wrong w event body
+IsReasonOf Promise.Objects w event body reason = reason ≡ unfit_object w event body
 IsReasonOf promise w event body reason = reason ≡ None
 
 -- The reason why the reply breaks this promise: for Refusals the refusal that was due. `reply` is None if the reply is not a

@@ -6,7 +6,7 @@ ghost use Rattle.promise_core.specs.State.{Known};
 ghost use Rattle.reply_judge.specs.KnownMachine.{ShowsKnown};
 ghost use Rattle.trace_check.specs.Gathered.{Gathers};
 ghost use Rattle.trace_check.specs.Reasons.{IsBlockReason, IsReason, IsReasonOf, answer_read, bytes_wrong, not_gained, not_lost, owner_in_way};
-ghost use Rattle.trace_check.specs.Reasons.{page_freed, unfit_block};
+ghost use Rattle.trace_check.specs.Reasons.{page_freed, unfit_block, unfit_object};
 ghost use Rattle.trace_check.specs.declared.reason.Reason.TheVariants as Why;
 
 use crate::answer::read_answer;
@@ -17,7 +17,7 @@ use known_holdings::FrameBlock;
 use model_core::limits::{MAX_BYTES, MAX_ORDER};
 use model_core::owner::Owner;
 use promise_core::promise::Promise;
-use reply_judge::{BlockFault, KnownMachine, WrongByte};
+use reply_judge::{BlockFault, KnownMachine, ObjectFault, WrongByte};
 use words_core::{AdminCommand, Answer, Command, Event, Refusal};
 
 /// Why a reply breaks a promise.
@@ -47,6 +47,11 @@ pub enum Reason {
     Wrong(WrongByte),
     /// `Bytes`: the command has this number of bytes.
     Count(u32),
+    /// `Objects`: something keeps the object at the place from being taken.
+    Object {
+        place: u32,
+        fault: ObjectFault,
+    },
 }
 
 /// Returns why the reply to the event breaks the promise. `reply` has the bytes that were read as the reply. Returns `None` if no
@@ -96,6 +101,7 @@ fn reason_in_answer(
         Promise::Gives => freed_reason(machine, event),
         Promise::Owners => owner_reason(machine, event, answer),
         Promise::Bytes => bytes_reason(machine, event, answer),
+        Promise::Objects => object_reason(machine, event, answer),
         _ => None,
     }
 }
@@ -194,6 +200,22 @@ fn bytes_reason(machine: &KnownMachine, event: &Event, answer: &Answer<'_>) -> O
         }
         (Event::Tenant(_, Command::Write { bytes, .. }), Answer::Written(_)) => {
             Some(Reason::Count(bytes.len() as u32))
+        }
+        _ => None,
+    }
+}
+
+/// Returns what keeps the answer's object from being taken.
+fn object_reason(machine: &KnownMachine, event: &Event, answer: &Answer<'_>) -> Option<Reason>
+    ensures { (w : Known) → ShowsKnown machine.now w → result ≡ unfit_object w event.now (body_of_answer answer.now) }
+{
+    match (event, answer) {
+        (Event::Tenant(tenant, Command::Take { cache }), Answer::Object(place)) => {
+            let fault = machine.object_fault(*tenant, *cache, *place)?;
+            Some(Reason::Object {
+                place: *place,
+                fault,
+            })
         }
         _ => None,
     }

@@ -15,4 +15,4 @@ returns-in-Outside g c =
 pub returns-in-Slab : goal.returns-in-Slab
 returns-in-Slab g c =
     only_text (g.W.Write.contents c.args.out.now) (g.W.Write.contents c.write-in-Slab.new.self) c.write-in-Slab.result _ (unfit_text c.args.block.now c.args.fault) c.write-in-Slab.ensures.bytes
-    (simp c.in-Slab.is)
+    (simp (c.in-Slab.is, c.first-first.ensures))
