@@ -5,6 +5,7 @@ use Rattle.model_core.specs.declared.owner.Owner.{Owner}
 use Rattle.promise_core.specs.declared.promise.Promise.{Promise}
 use Rattle.reply_judge.specs.declared.faults.BlockFault.{BlockFault}
 use Rattle.reply_judge.specs.declared.faults.ObjectFault.{ObjectFault}
+use Rattle.reply_judge.specs.declared.vacancy.Vacancy.{Vacancy}
 use Rattle.reply_judge.specs.declared.wrong_bytes.WrongByte.{WrongByte}
 use Rattle.trace_check.specs.declared.reason.Reason.{Reason}
 use Rattle.trace_check.specs.declared.taken.TakenFrame.{TakenFrame}
@@ -96,6 +97,11 @@ object_text place (ObjectFault.Unfit slab fault) = unfit_text slab fault
 object_text place (ObjectFault.Over other) = codes "the object overlaps the one at " ++ decimal other
 object_text place ObjectFault.Full = codes "all objects of the slab are live"
 
+-- the words for what is left for a request
+abbrev pub left_text : Vacancy → List ℕ
+left_text (Vacancy.Block b) = codes "the block of order " ++ (decimal b.order ++ (codes " at frame " ++ (decimal b.first ++ codes " is vacant")))
+left_text (Vacancy.Slab place) = codes "the slab of the object at " ++ (decimal place ++ codes " is not full")
+
 -- the words for why a promise is broken, or for what the promise requires if no reason was worked out
 abbrev pub reason_text : Promise → Option Reason → List ℕ
 reason_text promise None = words_of_promise promise
@@ -109,3 +115,4 @@ reason_text promise (Some (Reason.Missing superblock)) = missing_text superblock
 reason_text promise (Some (Reason.Wrong wrong)) = wrong_text wrong
 reason_text promise (Some (Reason.Count count)) = count_text count
 reason_text promise (Some (Reason.Object place fault)) = object_text place fault
+reason_text promise (Some (Reason.Left vacancy)) = left_text vacancy

@@ -2,14 +2,14 @@
 
 ghost use Rattle.std.specs.Prelude.{◌≡◌, ◌<◌, OnOk, Some};
 ghost use Rattle.std.specs.Io.KnownBytes.{Appends};
-ghost use Rattle.partcheck.specs.Reasons.{count_text, due_bytes_text, due_text, freed_text, hex_digit, hex_text, missing_text};
-ghost use Rattle.partcheck.specs.Reasons.{object_text, owned_text, reason_text, slab_over_text, taken_text, unfit_text};
-ghost use Rattle.partcheck.specs.Reasons.{unowned_text, words_of_promise, wrong_text};
+ghost use Rattle.partcheck.specs.Reasons.{count_text, due_bytes_text, due_text, freed_text, hex_digit, hex_text, left_text};
+ghost use Rattle.partcheck.specs.Reasons.{missing_text, object_text, owned_text, reason_text, slab_over_text, taken_text};
+ghost use Rattle.partcheck.specs.Reasons.{unfit_text, unowned_text, words_of_promise, wrong_text};
 
 use known_holdings::FrameBlock;
 use model_core::owner::Owner;
 use promise_core::promise::Promise;
-use reply_judge::{BlockFault, ObjectFault, WrongByte};
+use reply_judge::{BlockFault, ObjectFault, Vacancy, WrongByte};
 use std::io::{self, Write};
 use trace_check::{Reason, TakenFrame};
 use words_core::Refusal;
@@ -33,6 +33,7 @@ pub(crate) fn write_reason<W: Write>(
         Some(Reason::Wrong(wrong)) => write_wrong(out, &wrong),
         Some(Reason::Count(count)) => write_count(out, count),
         Some(Reason::Object { place, fault }) => write_object(out, place, fault),
+        Some(Reason::Left(vacancy)) => write_left(out, vacancy),
         None => out.write_all(words_of(promise).as_bytes()),
     }
 }
@@ -190,6 +191,19 @@ fn write_slab_over<W: Write>(out: &mut W, page: &FrameBlock) -> io::Result<()>
         out,
         "the slab overlaps the block of order {order} at frame {first}"
     )
+}
+
+/// Writes what is left for a request.
+fn write_left<W: Write>(out: &mut W, vacancy: Vacancy) -> io::Result<()>
+    ensures { OnOk result (Appends (W.contents out.old) (W.contents out.new) (left_text vacancy)) }
+{
+    match vacancy {
+        Vacancy::Block(block) => {
+            let (order, first) = (block.order(), block.first());
+            write!(out, "the block of order {order} at frame {first} is vacant")
+        }
+        Vacancy::Slab(place) => write!(out, "the slab of the object at {place} is not full"),
+    }
 }
 
 /// Returns the words for what a promise requires.

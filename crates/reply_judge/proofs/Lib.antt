@@ -10,6 +10,7 @@ pub mod ReplyVerdicts
 pub mod DueRefusals
 pub mod SlabsInWay
 pub mod WrongBytesInTurn
+pub mod VacantBlocksInTurn
 pub mod Opening
 pub mod RowSums
 pub mod Lists

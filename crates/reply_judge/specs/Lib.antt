@@ -5,3 +5,4 @@ pub mod Judged
 pub mod Due
 pub mod Faults
 pub mod WrongBytes
+pub mod Vacancy

@@ -7,6 +7,7 @@ ghost use Rattle.std.specs.Option.{option_map_or};
 ghost use Rattle.promise_core.specs.State.{opening, Known};
 ghost use Rattle.reply_judge.specs.Due.{refusal_due};
 ghost use Rattle.reply_judge.specs.Faults.{block_fault, object_fault};
+ghost use Rattle.reply_judge.specs.Vacancy.{left_for_block, left_for_object};
 ghost use Rattle.reply_judge.specs.WrongBytes.{wrong_byte};
 ghost use Rattle.shadow_memory.specs.Left.{left_at};
 ghost use Rattle.reply_judge.specs.KnownMachine.{ShowsKnown};
@@ -14,6 +15,7 @@ ghost use Rattle.reply_judge.specs.KnownMachine.{ShowsKnown};
 use crate::addressing::tenant_named;
 use crate::faults::{BlockFault, ObjectFault};
 use crate::tenant::Tenant;
+use crate::vacancy::Vacancy;
 use crate::wrong_bytes::WrongByte;
 use known_holdings::FrameBlock;
 use model_core::owner::Owner;
@@ -134,6 +136,25 @@ impl KnownMachine {
         self.tenants
             .get(tenant as usize)?
             .object_fault(self.order(), cache, place)
+    }
+
+    /// Returns a vacant block for a tenant's block of `2^k` frames, if there is one and the tenant exists.
+    pub fn left_for_block(&self, tenant: u32, k: u8) -> Option<Vacancy>
+        requires { k ≤ MAX_ORDER }
+        ensures { result ≡ option_map_or (λ y. left_for_block self.now.order y.has k) (slice_get self.now.tenants tenant) None }
+    {
+        self.tenants
+            .get(tenant as usize)?
+            .left_for_block(self.order(), k)
+    }
+
+    /// Returns what is left for an object of a tenant's cache, if anything is, and the tenant and the cache exist.
+    pub fn left_for_object(&self, tenant: u32, cache: u32) -> Option<Vacancy>
+        ensures { result ≡ option_map_or (λ y. left_for_object self.now.order y.has cache) (slice_get self.now.tenants tenant) None }
+    {
+        self.tenants
+            .get(tenant as usize)?
+            .left_for_object(self.order(), cache)
     }
 
     /// Returns the refusal that the reply to the event has to be, if there is one.

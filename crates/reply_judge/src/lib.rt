@@ -21,10 +21,12 @@ mod report;
 mod rows;
 mod taken;
 mod tenant;
+mod vacancy;
 mod verdict;
 mod wrong_bytes;
 
 pub use faults::{BlockFault, ObjectFault};
 pub use known_machine::KnownMachine;
+pub use vacancy::Vacancy;
 pub use verdict::Verdict;
 pub use wrong_bytes::WrongByte;

@@ -17,10 +17,11 @@ in_reply promise w event reply reason other is = is
 
 pub none_given : (promise : Promise) (w : Known) (event : Event) (body : Body) → (promise ≡ Promise.Blocks → ⊥) → (promise ≡ Promise.Gives → ⊥)
     → (promise ≡ Promise.Owners → ⊥) → (promise ≡ Promise.Bytes → ⊥)
-    → (promise ≡ Promise.Objects → ⊥) → IsReasonOf promise w event body None
-none_given Promise.Blocks w event body other-1 other-2 other-3 other-4 other-5 = absurd (other-1 refl)
-none_given Promise.Gives w event body other-1 other-2 other-3 other-4 other-5 = absurd (other-2 refl)
-none_given Promise.Owners w event body other-1 other-2 other-3 other-4 other-5 = absurd (other-3 refl)
-none_given Promise.Bytes w event body other-1 other-2 other-3 other-4 other-5 = absurd (other-4 refl)
-none_given Promise.Objects w event body other-1 other-2 other-3 other-4 other-5 = absurd (other-5 refl)
-none_given promise w event body other-1 other-2 other-3 other-4 other-5 = refl
+    → (promise ≡ Promise.Objects → ⊥) → (promise ≡ Promise.Room → ⊥) → IsReasonOf promise w event body None
+none_given Promise.Blocks w event body other-1 other-2 other-3 other-4 other-5 other-6 = absurd (other-1 refl)
+none_given Promise.Gives w event body other-1 other-2 other-3 other-4 other-5 other-6 = absurd (other-2 refl)
+none_given Promise.Owners w event body other-1 other-2 other-3 other-4 other-5 other-6 = absurd (other-3 refl)
+none_given Promise.Bytes w event body other-1 other-2 other-3 other-4 other-5 other-6 = absurd (other-4 refl)
+none_given Promise.Objects w event body other-1 other-2 other-3 other-4 other-5 other-6 = absurd (other-5 refl)
+none_given Promise.Room w event body other-1 other-2 other-3 other-4 other-5 other-6 = absurd (other-6 refl)
+none_given promise w event body other-1 other-2 other-3 other-4 other-5 other-6 = refl

@@ -16,7 +16,9 @@ use Rattle.promise_core.specs.declared.promise.Promise.{Promise}
 use Rattle.promise_core.specs.State.{Known}
 use Rattle.reply_judge.specs.Due.{refusal_due}
 use Rattle.reply_judge.specs.Faults.{block_fault, object_fault}
+use Rattle.reply_judge.specs.Vacancy.{left_for_block, left_for_object}
 use Rattle.reply_judge.specs.WrongBytes.{wrong_byte}
+use Rattle.reply_judge.specs.declared.vacancy.Vacancy.{Vacancy}
 use Rattle.trace_check.specs.Forms.{◌>>=◌}
 use Rattle.trace_check.specs.Gathered.{whole_of}
 use Rattle.trace_check.specs.Reading.{without_line_feed}
@@ -88,6 +90,13 @@ unfit_object w (Event.Tenant t (Command.Take number)) (Body.Object place) =
     option_map_or (λ s. option_map (λ fault. Reason.Object place fault) (object_fault w.order s.has number place)) (slice_get w.states t) None
 unfit_object w event body = None
 
+-- what is left for the event, so that it may not be refused for lack of frames
+abbrev pub left_for : Known → Event → Option Vacancy
+left_for w (Event.Tenant t (Command.Alloc k)) =
+    if nat_le k MAX_ORDER then option_map_or (λ s. left_for_block w.order s.has k) (slice_get w.states t) None else None
+left_for w (Event.Tenant t (Command.Take number)) = option_map_or (λ s. left_for_object w.order s.has number) (slice_get w.states t) None
+left_for w event = None
+
 -- the reason why a reply of one line breaks this promise; for Gives it is the page block that is freed, if the event is a free
 abbrev pub IsReasonOf : Promise → Known → Event → Body → Option Reason → Type 0
 IsReasonOf Promise.Blocks w event body reason = IsBlockReason w event body reason
@@ -95,6 +104,7 @@ IsReasonOf Promise.Gives w event body reason = reason ≡ option_map (λ page. R
 IsReasonOf Promise.Owners w event body reason = reason ≡ owner_in_way w event body
 IsReasonOf Promise.Bytes w event body reason = reason ≡ bytes_wrong w event body
 IsReasonOf Promise.Objects w event body reason = reason ≡ unfit_object w event body
+IsReasonOf Promise.Room w event body reason = reason ≡ option_map (λ vacancy. Reason.Left vacancy) (left_for w event)
 IsReasonOf promise w event body reason = reason ≡ None
 
 -- The reason why the reply breaks this promise: for Refusals the refusal that was due. `reply` is None if the reply is not a

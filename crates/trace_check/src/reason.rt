@@ -6,7 +6,7 @@ ghost use Rattle.promise_core.specs.State.{Known};
 ghost use Rattle.reply_judge.specs.KnownMachine.{ShowsKnown};
 ghost use Rattle.trace_check.specs.Gathered.{Gathers};
 ghost use Rattle.trace_check.specs.Reasons.{IsBlockReason, IsReason, IsReasonOf, answer_read, bytes_wrong, not_gained, not_lost, owner_in_way};
-ghost use Rattle.trace_check.specs.Reasons.{page_freed, unfit_block, unfit_object};
+ghost use Rattle.trace_check.specs.Reasons.{left_for, page_freed, unfit_block, unfit_object};
 ghost use Rattle.trace_check.specs.declared.reason.Reason.TheVariants as Why;
 
 use crate::answer::read_answer;
@@ -17,7 +17,7 @@ use known_holdings::FrameBlock;
 use model_core::limits::{MAX_BYTES, MAX_ORDER};
 use model_core::owner::Owner;
 use promise_core::promise::Promise;
-use reply_judge::{BlockFault, KnownMachine, ObjectFault, WrongByte};
+use reply_judge::{BlockFault, KnownMachine, ObjectFault, Vacancy, WrongByte};
 use words_core::{AdminCommand, Answer, Command, Event, Refusal};
 
 /// Why a reply breaks a promise.
@@ -52,6 +52,8 @@ pub enum Reason {
         place: u32,
         fault: ObjectFault,
     },
+    /// `Room`: this is left for the request.
+    Left(Vacancy),
 }
 
 /// Returns why the reply to the event breaks the promise. `reply` has the bytes that were read as the reply. Returns `None` if no
@@ -102,6 +104,7 @@ fn reason_in_answer(
         Promise::Owners => owner_reason(machine, event, answer),
         Promise::Bytes => bytes_reason(machine, event, answer),
         Promise::Objects => object_reason(machine, event, answer),
+        Promise::Room => left_reason(machine, event),
         _ => None,
     }
 }
@@ -216,6 +219,35 @@ fn object_reason(machine: &KnownMachine, event: &Event, answer: &Answer<'_>) -> 
                 place: *place,
                 fault,
             })
+        }
+        _ => None,
+    }
+}
+
+/// Returns what is left for the event, as a reason.
+fn left_reason(machine: &KnownMachine, event: &Event) -> Option<Reason>
+    ensures { (w : Known) → ShowsKnown machine.now w
+        → result ≡ option_map (λ vacancy. Why.Left vacancy) (left_for w event.now) }
+{
+    match left_for(machine, event) {
+        Some(vacancy) => Some(Reason::Left(vacancy)),
+        None => None,
+    }
+}
+
+/// Returns what is left for the event, so that it may not be refused for lack of frames.
+fn left_for(machine: &KnownMachine, event: &Event) -> Option<Vacancy>
+    ensures { (w : Known) → ShowsKnown machine.now w → result ≡ left_for w event.now }
+{
+    match event {
+        Event::Tenant(tenant, Command::Alloc { order }) => {
+            if *order > u32::from(MAX_ORDER) {
+                return None;
+            }
+            machine.left_for_block(*tenant, *order as u8)
+        }
+        Event::Tenant(tenant, Command::Take { cache }) => {
+            machine.left_for_object(*tenant, *cache)
         }
         _ => None,
     }

@@ -17,5 +17,8 @@ returns-in-Bytes c w shown = rw c.in-Bytes.is (c.bytes_reason.ensures w shown)
 pub returns-in-Objects : goal.returns-in-Objects
 returns-in-Objects c w shown = rw c.in-Objects.is (c.object_reason.ensures w shown)
 
+pub returns-in-Room : goal.returns-in-Room
+returns-in-Room c w shown = rw c.in-Room.is (c.left_reason.ensures w shown)
+
 pub returns-in_default : goal.returns-in_default
-returns-in_default c w shown = none_given c.args.promise w c.args.event.now (body_of_answer c.args.answer.now) c.in_default.not-Blocks c.in_default.not-Gives c.in_default.not-Owners c.in_default.not-Bytes c.in_default.not-Objects
+returns-in_default c w shown = none_given c.args.promise w c.args.event.now (body_of_answer c.args.answer.now) c.in_default.not-Blocks c.in_default.not-Gives c.in_default.not-Owners c.in_default.not-Bytes c.in_default.not-Objects c.in_default.not-Room
