@@ -7,6 +7,7 @@ use Rattle.reply_judge.specs.declared.faults.BlockFault.{BlockFault}
 use Rattle.reply_judge.specs.declared.faults.ObjectFault.{ObjectFault}
 use Rattle.reply_judge.specs.declared.vacancy.Vacancy.{Vacancy}
 use Rattle.reply_judge.specs.declared.wrong_bytes.WrongByte.{WrongByte}
+use Rattle.trace_check.specs.declared.kinds.AnswerKind.{AnswerKind}
 use Rattle.trace_check.specs.declared.reason.Reason.{Reason}
 use Rattle.trace_check.specs.declared.taken.TakenFrame.{TakenFrame}
 use Rattle.words_core.specs.Texts.{name_of_refusal, number_of_refusal}
@@ -102,9 +103,39 @@ abbrev pub left_text : Vacancy → List ℕ
 left_text (Vacancy.Block b) = codes "the block of order " ++ (decimal b.order ++ (codes " at frame " ++ (decimal b.first ++ codes " is vacant")))
 left_text (Vacancy.Slab place) = codes "the slab of the object at " ++ (decimal place ++ codes " is not full")
 
+-- the form of an answer of this kind, as the help of partmem has it
+abbrev pub form_of_kind : AnswerKind → List ℕ
+form_of_kind AnswerKind.Frame = codes "frame F"
+form_of_kind AnswerKind.Freed = codes "freed K"
+form_of_kind AnswerKind.Bytes = codes "bytes HEX"
+form_of_kind AnswerKind.Written = codes "written L"
+form_of_kind AnswerKind.Cache = codes "cache C chunk c order q objects n colours x"
+form_of_kind AnswerKind.Destroyed = codes "destroyed F"
+form_of_kind AnswerKind.Object = codes "object P"
+form_of_kind AnswerKind.Given = codes "given"
+form_of_kind AnswerKind.Reaped = codes "reaped F"
+form_of_kind AnswerKind.Report = codes "frames .."
+form_of_kind AnswerKind.Granted = codes "granted T slot U superblock M"
+form_of_kind AnswerKind.TakenBack = codes "taken superblock M"
+form_of_kind AnswerKind.WasReset = codes "reset T superblocks R"
+form_of_kind AnswerKind.Moved = codes "moved T slot U superblock M"
+form_of_kind AnswerKind.Owners = codes "pool free F of N .."
+
+-- the words for a reply that has to go to the tenant
+abbrev pub tenant_text : ℕ → AnswerKind → List ℕ
+tenant_text tenant kind = codes "the reply has to be " ++ (decimal tenant ++ (codes "> " ++ (form_of_kind kind ++ (codes " or " ++ (decimal tenant
+    ++ codes "> refused NUMBER NAME")))))
+
+-- the words for a reply that has to go to the administrator
+abbrev pub admin_text : AnswerKind → List ℕ
+admin_text kind = codes "the reply has to be admin> " ++ (form_of_kind kind ++ codes " or admin> refused NUMBER NAME")
+
 -- the words for why a promise is broken, or for what the promise requires if no reason was worked out
 abbrev pub reason_text : Promise → Option Reason → List ℕ
 reason_text promise None = words_of_promise promise
+reason_text promise (Some (Reason.ToTenant tenant kind)) = tenant_text tenant kind
+reason_text promise (Some (Reason.ToAdmin kind)) = admin_text kind
+reason_text promise (Some Reason.ToNobody) = codes "the reply has to be !> refused 12 NoTenant"
 reason_text promise (Some (Reason.Due due)) = due_text due
 reason_text promise (Some (Reason.Freed page)) = freed_text page
 reason_text promise (Some (Reason.Taken taken)) = taken_text taken

@@ -2,7 +2,8 @@
 
 ghost use Rattle.std.specs.Prelude.{◌≡◌, ◌<◌, OnOk, Some};
 ghost use Rattle.std.specs.Io.KnownBytes.{Appends};
-ghost use Rattle.partcheck.specs.Reasons.{count_text, due_bytes_text, due_text, freed_text, hex_digit, hex_text, left_text};
+ghost use Rattle.partcheck.specs.Reasons.{admin_text, count_text, due_bytes_text, due_text, form_of_kind, freed_text};
+ghost use Rattle.partcheck.specs.Reasons.{hex_digit, hex_text, left_text, tenant_text};
 ghost use Rattle.partcheck.specs.Reasons.{missing_text, object_text, owned_text, reason_text, slab_over_text, taken_text};
 ghost use Rattle.partcheck.specs.Reasons.{unfit_text, unowned_text, words_of_promise, wrong_text};
 
@@ -11,7 +12,7 @@ use model_core::owner::Owner;
 use promise_core::promise::Promise;
 use reply_judge::{BlockFault, ObjectFault, Vacancy, WrongByte};
 use std::io::{self, Write};
-use trace_check::{Reason, TakenFrame};
+use trace_check::{AnswerKind, Reason, TakenFrame};
 use words_core::Refusal;
 
 /// Writes why a promise is broken, or what the promise requires if no reason was worked out.
@@ -23,6 +24,9 @@ pub(crate) fn write_reason<W: Write>(
     ensures { OnOk result (Appends (W.contents out.old) (W.contents out.new) (reason_text promise reason)) }
 {
     match reason {
+        Some(Reason::ToTenant { tenant, kind }) => write_to_tenant(out, tenant, kind),
+        Some(Reason::ToAdmin(kind)) => write_to_admin(out, kind),
+        Some(Reason::ToNobody) => out.write_all(b"the reply has to be !> refused 12 NoTenant"),
         Some(Reason::Due(due)) => write_due(out, due),
         Some(Reason::Freed(page)) => write_freed(out, &page),
         Some(Reason::Taken(taken)) => write_taken(out, taken),
@@ -35,6 +39,51 @@ pub(crate) fn write_reason<W: Write>(
         Some(Reason::Object { place, fault }) => write_object(out, place, fault),
         Some(Reason::Left(vacancy)) => write_left(out, vacancy),
         None => out.write_all(words_of(promise).as_bytes()),
+    }
+}
+
+/// Writes which replies to a command of the tenant are due.
+fn write_to_tenant<W: Write>(out: &mut W, tenant: u32, kind: AnswerKind) -> io::Result<()>
+    ensures { OnOk result (Appends (W.contents out.old) (W.contents out.new) (tenant_text tenant kind)) }
+{
+    let form = form_of_kind(kind);
+    write!(
+        out,
+        "the reply has to be {tenant}> {form} or {tenant}> refused NUMBER NAME"
+    )
+}
+
+/// Writes which replies to a command of the administrator are due.
+fn write_to_admin<W: Write>(out: &mut W, kind: AnswerKind) -> io::Result<()>
+    ensures { OnOk result (Appends (W.contents out.old) (W.contents out.new) (admin_text kind)) }
+{
+    let form = form_of_kind(kind);
+    write!(
+        out,
+        "the reply has to be admin> {form} or admin> refused NUMBER NAME"
+    )
+}
+
+/// Returns the form of an answer of this kind, as the help of partmem has it.
+fn form_of_kind(kind: AnswerKind) -> &'static str
+    ensures { result.now ≡ form_of_kind kind }
+{
+    match kind {
+        AnswerKind::Frame => "frame F",
+        AnswerKind::Freed => "freed K",
+        AnswerKind::Bytes => "bytes HEX",
+        AnswerKind::Written => "written L",
+        AnswerKind::Cache => "cache C chunk c order q objects n colours x",
+        AnswerKind::Destroyed => "destroyed F",
+        AnswerKind::Object => "object P",
+        AnswerKind::Given => "given",
+        AnswerKind::Reaped => "reaped F",
+        AnswerKind::Report => "frames ..",
+        AnswerKind::Granted => "granted T slot U superblock M",
+        AnswerKind::TakenBack => "taken superblock M",
+        AnswerKind::WasReset => "reset T superblocks R",
+        AnswerKind::Moved => "moved T slot U superblock M",
+        AnswerKind::Owners => "pool free F of N ..",
     }
 }
 

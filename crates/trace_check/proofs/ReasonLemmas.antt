@@ -9,11 +9,12 @@ use Rattle.promise_core.specs.State.{Known}
 use Rattle.trace_check.specs.Reasons.{IsReason, IsReasonOf}
 use Rattle.trace_check.specs.declared.reason.Reason.{Reason}
 
--- the reason why a reply breaks a promise other than Refusals is the reason that its answer gives
-pub in_reply : (promise : Promise) (w : Known) (event : Event) (reply : Option Reply) (reason : Option Reason) → (promise ≡ Promise.Refusals → ⊥)
+-- the reason why a reply breaks a promise other than Form and Refusals is the reason that its answer gives
+pub in_reply : (promise : Promise) (w : Known) (event : Event) (reply : Option Reply) (reason : Option Reason) → (promise ≡ Promise.Form → ⊥) → (promise ≡ Promise.Refusals → ⊥)
     → MatchOption reply (reason ≡ None) (λ told. IsReasonOf promise w event told.body reason) → IsReason promise w event reply reason
-in_reply Promise.Refusals w event reply reason other is = absurd (other refl)
-in_reply promise w event reply reason other is = is
+in_reply Promise.Form w event reply reason other-1 other-2 is = absurd (other-1 refl)
+in_reply Promise.Refusals w event reply reason other-1 other-2 is = absurd (other-2 refl)
+in_reply promise w event reply reason other-1 other-2 is = is
 
 pub none_given : (promise : Promise) (w : Known) (event : Event) (body : Body) → (promise ≡ Promise.Blocks → ⊥) → (promise ≡ Promise.Gives → ⊥)
     → (promise ≡ Promise.Owners → ⊥) → (promise ≡ Promise.Bytes → ⊥)

@@ -8,4 +8,5 @@ pub mod Finding
 pub mod Checking
 pub mod Laws
 pub mod Taken
+pub mod Kinds
 pub mod Reasons

@@ -1,6 +1,6 @@
 -- Why a reply breaks a promise, by what is known before the reply. For some promises, and for some replies, no reason is worked
 -- out.
-use Rattle.std.specs.Prelude.{◌≡◌, ◌==◌, ℕ, nat_le, if◌then◌else◌, List, length, Option, Some, None, Result, Ok, Err, MatchOption, find, option_map, slice_get}
+use Rattle.std.specs.Prelude.{◌≡◌, ◌==◌, ℕ, nat_le, if◌then◌else◌, List, length, Option, Some, None, Result, Ok, Err, MatchOption, find, is_some, option_map, slice_get}
 use Rattle.std.specs.Option.{option_map_or}
 use Rattle.model_core.specs.Blocks.{Block, block}
 use Rattle.model_core.specs.declared.limits.TheConstants.{MAX_ORDER}
@@ -21,6 +21,7 @@ use Rattle.reply_judge.specs.WrongBytes.{wrong_byte}
 use Rattle.reply_judge.specs.declared.vacancy.Vacancy.{Vacancy}
 use Rattle.trace_check.specs.Forms.{◌>>=◌}
 use Rattle.trace_check.specs.Gathered.{whole_of}
+use Rattle.trace_check.specs.Kinds.{kind_of_admin, kind_of_command}
 use Rattle.trace_check.specs.Reading.{without_line_feed}
 use Rattle.trace_check.specs.Replies.{answer_of}
 use Rattle.trace_check.specs.Taken.{IsInWay}
@@ -107,9 +108,15 @@ IsReasonOf Promise.Objects w event body reason = reason ≡ unfit_object w event
 IsReasonOf Promise.Room w event body reason = reason ≡ option_map (λ vacancy. Reason.Left vacancy) (left_for w event)
 IsReasonOf promise w event body reason = reason ≡ None
 
--- The reason why the reply breaks this promise: for Refusals the refusal that was due. `reply` is None if the reply is not a
--- reply of one line.
+-- whom the reply to an event has to go to, and the kind of answer that the event has; a tenant that does not exist gets no answer
+abbrev pub form_due : Known → Event → Reason
+form_due w (Event.Tenant t command) = if is_some (slice_get w.states t) then Reason.ToTenant t (kind_of_command command) else Reason.ToNobody
+form_due w (Event.Admin command) = Reason.ToAdmin (kind_of_admin command)
+
+-- The reason why the reply breaks this promise: for Form the replies that are due, and for Refusals the refusal that was due.
+-- `reply` is None if the reply is not a reply of one line.
 abbrev pub IsReason : Promise → Known → Event → Option Reply → Option Reason → Type 0
+IsReason Promise.Form w event reply reason = reason ≡ Some (form_due w event)
 IsReason Promise.Refusals w event reply reason = reason ≡ Some (Reason.Due (refusal_due w event))
 IsReason promise w event reply reason = MatchOption reply (reason ≡ None) (λ told. IsReasonOf promise w event told.body reason)
 

@@ -6,11 +6,12 @@ ghost use Rattle.promise_core.specs.State.{Known};
 ghost use Rattle.reply_judge.specs.KnownMachine.{ShowsKnown};
 ghost use Rattle.trace_check.specs.Gathered.{Gathers};
 ghost use Rattle.trace_check.specs.Reasons.{IsBlockReason, IsReason, IsReasonOf, answer_read, bytes_wrong, not_gained, not_lost, owner_in_way};
-ghost use Rattle.trace_check.specs.Reasons.{left_for, page_freed, unfit_block, unfit_object};
+ghost use Rattle.trace_check.specs.Reasons.{form_due, left_for, page_freed, unfit_block, unfit_object};
 ghost use Rattle.trace_check.specs.declared.reason.Reason.TheVariants as Why;
 
 use crate::answer::read_answer;
 use crate::gathered::Gathered;
+use crate::kinds::{AnswerKind, kind_of_admin, kind_of_command};
 use crate::shown::MAX_TEXT_BYTES;
 use crate::taken::{TakenFrame, taken_frame};
 use known_holdings::FrameBlock;
@@ -23,6 +24,15 @@ use words_core::{AdminCommand, Answer, Command, Event, Refusal};
 /// Why a reply breaks a promise.
 #[derive(Clone, Copy, Debug)]
 pub enum Reason {
+    /// `Form`: the reply has to go to this tenant, and to be an answer of this kind or a refusal.
+    ToTenant {
+        tenant: u32,
+        kind: AnswerKind,
+    },
+    /// `Form`: the reply has to go to the administrator, and to be an answer of this kind or a refusal.
+    ToAdmin(AnswerKind),
+    /// `Form`: the reply has to be the refusal of a tenant that does not exist.
+    ToNobody,
     /// `Refusals`: the reply has to be this refusal, or no refusal is due.
     Due(Option<Refusal>),
     /// `Gives`: the page block that is freed.
@@ -68,12 +78,29 @@ pub(crate) fn reason_for(
         → IsReason promise w event.now (answer_read text) result }
 {
     match promise {
+        Promise::Form => Some(form_due(machine, event)),
         Promise::Refusals => Some(Reason::Due(machine.due(event))),
         _ => reason_in_reply(machine, promise, event, reply),
     }
 }
 
-/// Does the same as [`reason_for`] for all promises other than `Refusals`. Returns `None` if the reply is not a reply of one line.
+/// Returns whom the reply to the event has to go to, and the kind of answer that the event has.
+fn form_due(machine: &KnownMachine, event: &Event) -> Reason
+    ensures { (w : Known) → ShowsKnown machine.now w → result ≡ form_due w event.now }
+{
+    match event {
+        Event::Tenant(tenant, command) => match machine.caches_of(*tenant) {
+            Some(_) => Reason::ToTenant {
+                tenant: *tenant,
+                kind: kind_of_command(command),
+            },
+            None => Reason::ToNobody,
+        },
+        Event::Admin(command) => Reason::ToAdmin(kind_of_admin(command)),
+    }
+}
+
+/// Does the same as [`reason_for`] for the other promises. Returns `None` if the reply is not a reply of one line.
 fn reason_in_reply(
     machine: &KnownMachine,
     promise: Promise,
