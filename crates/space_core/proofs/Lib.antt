@@ -1,11 +1,12 @@
 mod TableLemmas
-mod Mapping
+pub mod Mapping
 mod BankLemmas
 mod StoredBytes
 pub mod EmptySpace
 mod MappingKept
 pub mod InvariantKept
 pub mod VacantSlots
+pub mod Vacancies
 mod Places
 pub mod BytesUnderSlots
 mod OwnBytes

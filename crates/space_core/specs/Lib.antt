@@ -5,3 +5,4 @@ pub mod Lending
 pub mod Laws
 pub mod Tables
 pub mod Storage
+pub mod Vacancy

@@ -13,6 +13,7 @@
 
 mod banks;
 mod pool;
+mod vacancy;
 mod windows;
 
 ghost use Rattle.std.specs.Prelude.{◌≡◌, ◌*◌, ◌^◌, ◌≤◌, IfOk};
@@ -23,6 +24,7 @@ ghost use Rattle.space_core.specs.Laws.{SpaceLaws};
 
 use crate::banks::make_banks;
 use crate::pool::make_rows;
+use crate::vacancy::Vacancy;
 pub use model_core::limits::FRAME_BYTES;
 use model_core::owner::Owner;
 use std::alloc::{AllocError, Global};
@@ -60,6 +62,8 @@ pub struct Space {
     bits: u8,
     owners: Vec<Option<Owner>>,
     slots: Vec<Vec<Option<u16>>>,
+    // The superblocks without an owner, and the slots that each tenant does not hold.
+    vacancy: Vacancy,
     // The stored bytes of each superblock. The vector has its full capacity, but is empty from boot or from a grant until a byte
     // is first written or lent for writing.
     banks: Vec<Vec<u8>>,
@@ -72,6 +76,7 @@ impl Model for Space {
     ghost use Rattle.space_core.specs.Content.{Content, IsSpace};
     ghost use Rattle.space_core.specs.Tables.{stored_slots, stored_bytes};
     ghost use Rattle.space_core.specs.Storage.{shown_banks, IsStored};
+    ghost use Rattle.space_core.specs.Vacancy.{IsVacancy};
 
     ghost Value = { Content };
 
@@ -90,7 +95,8 @@ impl Model for Space {
       banks = shown_banks s.unit (stored_bytes s.banks);
       marks = s.marks.items;
     })
-        × IsStored s.unit s.bits s.banks.items s.zeros.items };
+        × IsStored s.unit s.bits s.banks.items s.zeros.items
+        × IsVacancy s.owners.items (stored_slots s.slots) s.vacancy.unowned s.vacancy.vacant.items };
 }
 
 impl Space {
@@ -108,6 +114,7 @@ impl Space {
         let bits = FRAME_BITS + order;
         let owners = vec![in alloc; None; usize::from(superblocks)]?;
         let slots = make_rows(alloc, usize::from(tenants), usize::from(superblocks))?;
+        let vacancy = Vacancy::new(alloc, superblocks, tenants)?;
         let banks = make_banks(alloc, usize::from(superblocks), unit as usize)?;
         let marks = vec![in alloc; false; usize::from(superblocks)]?;
         let zeros = vec![in alloc; 0; unit as usize]?;
@@ -116,6 +123,7 @@ impl Space {
             bits,
             owners,
             slots,
+            vacancy,
             banks,
             marks,
             zeros,

@@ -31,6 +31,7 @@ impl Space {
         self.marks[usize::from(m)] = false;
         self.owners[usize::from(m)] = Some(Owner { tenant: t, slot: u });
         set_slot(&mut self.slots, t, usize::from(u), Some(m));
+        self.vacancy.fill(t, u, m);
         Ok((u, m))
     }
 
@@ -50,6 +51,7 @@ impl Space {
         self.marks[usize::from(m)] = true;
         self.owners[usize::from(m)] = None;
         set_slot(&mut self.slots, t, slot as usize, None);
+        self.vacancy.empty(t, slot as u16, m);
         Ok(m)
     }
 
@@ -78,6 +80,7 @@ impl Space {
         self.marks[target] = false;
         self.owners.swap(source, target);
         set_slot(&mut self.slots, t, slot as usize, Some(to));
+        self.vacancy.pass(from, to);
         Ok((from, to))
     }
 
@@ -159,8 +162,7 @@ impl Space {
         ensures value { result ≡ position is_none self.now.owners }
         ensures below { IfSome result (λ m. m < length self.now.owners) }
     {
-        let m = first_none(&self.owners)?;
-        Some(m as u16)
+        self.vacancy.least_unowned()
     }
 
     /// Returns the least slot that tenant `t` does not hold. Some superblock must have no owner, which ensures that the tenant
@@ -172,16 +174,8 @@ impl Space {
         ensures below { result < length self.now.owners }
     {
         self.laws();
-        first_none(self.row(t)).unwrap() as u16
+        self.vacancy.least_vacant(t).unwrap()
     }
-}
-
-/// Returns the index of the first entry that is `None`, or `None` if no entry is.
-fn first_none<T>(items: &[Option<T>]) -> Option<usize>
-    ensures value { result ≡ position is_none items.now }
-    ensures below { IfSome result (λ i. i < length items.now) }
-{
-    items.iter().position(|item| item.is_none())
 }
 
 /// Sets the superblock of slot `u` of tenant `t`; `None` empties the slot.

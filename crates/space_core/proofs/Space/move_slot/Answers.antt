@@ -1,4 +1,5 @@
-use Rattle.std.proofs.Common.{◌≡◌, ℕ, List, Option, ◌<◌, Some, None, length, ap, sym, ◌∙◌, refl, arith}
+use Rattle.std.proofs.Common.{◌≡◌, ℕ, Bool, List, [], Option, ◌<◌, Some, None, length, ap, sym, ◌∙◌, refl, arith}
+use Rattle.std.specs.Global.{Vec}
 use Rattle.std.specs.List.{swap}
 use Rattle.std.proofs.Math.ListN.{set}
 use Rattle.std.proofs.lemmas.List.Edits.{swap_is}
@@ -12,6 +13,7 @@ use Rattle.space_core.proofs.Mapping.{superblock-lt}
 use Rattle.space_core.proofs.BytesUnderSlots.{not_unowned}
 use Rattle.space_core.proofs.InvariantKept.{moved-IsSpace}
 use Rattle.space_core.proofs.StoredBytes.{length-shown, shown-copied, stored-short}
+use Rattle.space_core.proofs.Vacancies.{moved_vacancy, superblock_in_set}
 use Rattle.space_core.proofs.VacantSlots.{unowned-from_position}
 use Rattle.space_core.proofs.Space.move_slot.Goals as goal
 
@@ -38,9 +40,24 @@ copy_bank-requires-clause-capacity c =
 owner_passes : (owners : List (Option Owner)) (from to : ℕ) (o : Owner) → from < length owners → to < length owners → owner_at owners from ≡ Some o → owner_at owners to ≡ None → swap owners from to ≡ set (set owners from None) to (Some o)
 owner_passes owners from to o there here owned unowned = sym (swap_is owners from to None there here) ∙ ap (λ (x : Option Owner). set (set owners from x) to (owner_at owners from)) unowned ∙ ap (set (set owners from None) to) owned
 
+pub pass-requires-clause-from : goal.pass-requires-clause-from
+pass-requires-clause-from c =
+    let s = the_view c.self.inside in
+    let v = c.self.inside.vacancy in
+    let under = rw (← c.self.view_is) at (sym c.machine_of.ensures.value ∙ c.in_ok-from.ensures.ok_part) in
+    superblock_in_set s.owners s.slots v.unowned v.vacant.items c.self.invariant.2 c.args.t 0 [] [] c.in_ok-from.from (superblock-lt c.self.invariant.0 c.args.t c.args.slot c.in_ok-from.from under)
+
+pub pass-requires-clause-to : goal.pass-requires-clause-to
+pass-requires-clause-to c =
+    let s = the_view c.self.inside in
+    let v = c.self.inside.vacancy in
+    let below = rw (← c.self.view_is) at (rw c.in_ok-to.ensures.ok_part at c.least_unowned.ensures.below) in
+    superblock_in_set s.owners s.slots v.unowned v.vacant.items c.self.invariant.2 c.args.t 0 [] [] c.in_ok-to.to below
+
 pub invariant_of-self : goal.invariant_of-self
 invariant_of-self c =
     let s = the_view c.self.inside in
+    let v = c.self.inside.vacancy in
     let facts = c.self.invariant.0 in
     let stored = lists_of c.self.inside.banks.items in
     let from = c.in_ok-from.from in
@@ -58,6 +75,8 @@ invariant_of-self c =
     rw (c.from-source.ensures, c.from-target.ensures, c.set_slot.ensures, banks, owners) (
       moved-IsSpace facts c.args.t c.args.slot from to under below unowned,
       record { few = c.self.invariant.1.few; size = c.self.invariant.1.size; capacity = c.copy_bank.ensures.capacity s.unit c.self.invariant.1.capacity; blank = c.self.invariant.1.blank },
+      moved_vacancy s.owners s.slots v.unowned v.vacant.items c.self.invariant.2 c.args.t c.args.slot c.pass.new.self.unowned c.pass.new.self.vacant.items from to (owned_by c.args.t c.args.slot) under c.pass.ensures.unowned
+          (ap (λ (all : Vec (List Bool)). all.items) c.pass.ensures.vacant),
     )
 
 pub returns-clause-ok : goal.returns-clause-ok

@@ -5,6 +5,7 @@ use Rattle.model_core.specs.declared.limits.TheConstants.{MAX_ORDER}
 use Rattle.space_core.specs.Storage.{shown_banks}
 use Rattle.space_core.proofs.EmptySpace.{empty_space-IsSpace}
 use Rattle.space_core.proofs.StoredBytes.{shown-none}
+use Rattle.space_core.proofs.Vacancies.{blank_vacancy}
 use Rattle.space_core.proofs.Space.new.Goals as goal
 
 pub invariant_of-result : goal.invariant_of-result
@@ -21,6 +22,7 @@ invariant_of-result c =
     rw (owners, slots, banks, marks) (
       empty_space-IsSpace unit c.args.superblocks c.args.tenants (omega (arith, most)) (omega (arith, most)) c.requires.superblocks c.requires.tenants,
       record { few = omega arith; size = (let whole : unit ≡ 2 ^ 12 * 2 ^ c.args.order = omega (arith, most) in whole ∙ sym (pow-add 2 12 c.args.order)); capacity = c.in_ok-banks.ensures.capacity; blank = zeros },
+      blank_vacancy c.args.superblocks c.args.tenants c.in_ok-vacancy.vacancy.unowned c.in_ok-vacancy.vacancy.vacant.items c.in_ok-vacancy.ensures.unowned c.in_ok-vacancy.ensures.vacant,
     )
 
 pub returns : goal.returns

@@ -62,6 +62,7 @@ invariant_of-self-lent c = λ w.
         few = c.self.invariant.1.few;
         size = c.self.invariant.1.size;
       },
+      c.self.invariant.2,
     )
 
 pub returns : goal.returns

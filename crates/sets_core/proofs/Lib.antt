@@ -1,0 +1,4 @@
+pub mod OneNumber
+pub mod InsertedRemoved
+pub mod LeastNumber
+pub mod AllNumbers
