@@ -3,7 +3,7 @@
 ghost use Rattle.std.specs.Prelude.{◌≡◌, ◌^◌, ◌<◌, ◌≤◌};
 ghost use Rattle.model_core.specs.declared.limits.TheConstants.{MAX_ORDER};
 
-use model_core::limits::{MAX_CACHES, MAX_SUPERBLOCKS};
+use model_core::limits::MAX_CACHES;
 use std::alloc::{AllocError, Global};
 
 /// The order of a group of frames. If superblocks have a lower order, a group has that order, so a group always lies in one slot.
@@ -25,10 +25,13 @@ pub(crate) struct Groups {
     words: Vec<u64>,
     /// For each list, true if it is kept in groups.
     kept: Vec<bool>,
+    /// Each tenant has `2^row` entries in `superblocks`.
+    row: u8,
     superblocks: Vec<u32>,
     ghost order_small: { order ≤ MAX_ORDER },
     ghost group_small: { group ≤ 5 },
     ghost span_small: { span ≤ 32 },
+    ghost row_small: { row ≤ 16 },
 }
 
 impl Groups {
@@ -46,7 +49,7 @@ impl Groups {
         let groups = u32::from(superblocks) << (order - group);
         let span = (32 - (groups.saturating_sub(1) / 64).leading_zeros()) as u8;
         let lists = 3 * usize::from(MAX_CACHES) * usize::from(tenants);
-        let slots = usize::from(MAX_SUPERBLOCKS) * usize::from(tenants);
+        let row = (16 - superblocks.saturating_sub(1).leading_zeros()) as u8;
         Ok(Groups {
             order,
             group,
@@ -54,7 +57,8 @@ impl Groups {
             span,
             words: vec![in alloc; 0; lists << span]?,
             kept: vec![in alloc; false; lists]?,
-            superblocks: vec![in alloc; 0; slots]?,
+            row,
+            superblocks: vec![in alloc; 0; usize::from(tenants) << row]?,
         })
     }
 
@@ -182,6 +186,6 @@ impl Groups {
     /// Returns the index of the frame's slot among the slots of all tenants. The frame is in the numbering of the list's tenant.
     fn slot_of(&self, list: u32, frame: u32) -> usize {
         let tenant = list as usize / (3 * usize::from(MAX_CACHES));
-        usize::from(MAX_SUPERBLOCKS) * tenant + (frame >> self.order) as usize
+        tenant << self.row | (frame >> self.order) as usize
     }
 }
