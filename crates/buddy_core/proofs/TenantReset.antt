@@ -36,6 +36,13 @@ cleared_past top before after tenant n off c = record {
     go w m lt at (inl below) = c.gone w m below at
     go w m lt at (inr here) = absurd (off m (ap (superblock_at tenant) (let e : n ≡ w = omega arith in e) ∙ at))
 
+-- if no slot from slot u on has a superblock, the first u + n slots are cleared as soon as the first u are
+pub cleared_on : (top : ℕ) (before after : List StoredSuperblock) (tenant : StoredTenant) (u : ℕ) → Cleared top before after tenant u → ((v : ℕ) → u ≤ v → superblock_at tenant v ≡ None) → (n : ℕ) → Cleared top before after tenant (u + n)
+cleared_on top before after tenant u c rest zero = subst (Cleared top before after tenant) (omega arith) c
+cleared_on top before after tenant u c rest (suc n) =
+    subst (Cleared top before after tenant) (omega arith)
+    (cleared_past top before after tenant (u + n) (λ m there. none-some m (sym (rest (u + n) (omega arith)) ∙ there)) (cleared_on top before after tenant u c rest n))
+
 pub cleared_more : (top : ℕ) (before after : List StoredSuperblock) (tenant : StoredTenant) (n m : ℕ) (s : StoredSuperblock) → superblock_at tenant n ≡ Some m → m < length before → s ≡ bare_superblock top
     → ((w v i : ℕ) → superblock_at tenant w ≡ Some i → superblock_at tenant v ≡ Some i → w ≡ v) → Cleared top before after tenant n → Cleared top before (set after m s) tenant (n + 1)
 cleared_more top before after tenant n m s at lt blank apart c = record {

@@ -195,9 +195,9 @@ impl Buddy {
         requires { t < length self.old.tenants }
         ensures { self.new ≡ with_holding t (nothing_held self.old.top self.old.superblocks) self.old }
     {
-        let slots = self.superblocks.len();
-        for slot in 0..slots {
-            if let Some(m) = self.tenants[t as usize].superblock_at(slot as u32) {
+        let end = self.slots_end(t);
+        for slot in 0..end {
+            if let Some(m) = self.tenants[t as usize].superblock_at(u32::from(slot)) {
                 self.superblocks[m as usize].clear();
             }
         }
@@ -346,6 +346,16 @@ impl Buddy {
         ensures { result ≡ held_slots (holding_of t self.now) }
     {
         self.tenants[t as usize].held_slots()
+    }
+
+    /// Returns a number above the number of each slot that tenant `t` holds. It is 0 if the tenant has held no slot since boot or
+    /// since its last reset.
+    pub fn slots_end(&self, t: u8) -> u16
+        requires { t < length self.now.tenants }
+        ensures within { result ≤ self.now.superblocks }
+        ensures rest { (u : ℕ) → result ≤ u → superblock_at (holding_of t self.now) u ≡ None }
+    {
+        self.tenants[t as usize].held().len() as u16
     }
 
     /// Returns an entry for each of the `2^order` frames of a slot of tenant `t`: the order of the taken block that begins there,

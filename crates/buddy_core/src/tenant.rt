@@ -52,6 +52,7 @@ impl Tenant {
     pub fn held(&self) -> &[Option<u16>]
         ensures same { (u : ℕ) → slice_index_or result.now u None ≡ slice_index_or self.now.slots u None }
         ensures few { length result.now ≤ MAX_SUPERBLOCKS }
+        ensures within { length result.now ≤ length self.now.slots }
     {
         &self.slots[..self.end]
     }
@@ -175,7 +176,9 @@ impl Tenant {
         ensures free { self.new.free ≡ replicate (length self.old.free) 0 }
         ensures taken { self.new.taken ≡ replicate (length self.old.taken) 0 }
     {
-        self.slots.fill(None);
+        for slot in 0..self.end {
+            self.slots[slot] = None;
+        }
         self.end = 0;
         self.free.fill(0);
         self.taken.fill(0);

@@ -1,11 +1,10 @@
 -- The block that a lookup finds around a place, from the kind of the frame and the taken block around the frame.
-use Rattle.std.proofs.Common.{◌≡◌, ℕ, ◌+◌, ◌*◌, ◌/◌, ◌^◌, ◌<◌, ◌≤◌, ◌==◌, Bool, true, false, List, ◌++◌, Option, Some, None, length, refl, sym, ap, ◌∙◌, subst, ⊎_elim, arith}
-use Rattle.std.specs.Prelude.{MatchOption, find, flat_map, is_some, if◌then◌else◌}
-use Rattle.std.specs.List.{list_any}
+use Rattle.std.proofs.Common.{◌≡◌, ℕ, ◌+◌, ◌/◌, ◌^◌, ◌<◌, ◌≤◌, ◌==◌, Bool, true, false, List, ◌++◌, Some, None, refl, sym, ap, ◌∙◌, subst, ⊎_elim, arith}
+use Rattle.std.specs.Prelude.{find, flat_map}
 use Rattle.std.proofs.lemmas.Bool.{false≢true, false_from_ne_true}
 use Rattle.model_core.specs.declared.limits.TheConstants.{FRAME_BYTES}
 use Rattle.model_core.specs.Blocks.{Block, block, slot_block, HasFrame, IsTaken}
-use Rattle.model_core.specs.Machine.{Slab, Machine, holds, slot_of, in_block, slab_block, slab_blocks, taken_blocks, taken_in, order_in}
+use Rattle.model_core.specs.Machine.{Slab, Machine, holds, slot_of, in_block, slab_block, slab_blocks, taken_blocks, order_in}
 use Rattle.model_core.specs.WellFormed.{IsWellFormed}
 use Rattle.model_core.specs.Elements.{IsIn}
 use Rattle.model_core.proofs.Lists.{in_append, in_left, in_right, in_map, in_flat_map, find_in, any_none, each_from}
@@ -21,7 +20,7 @@ use Rattle.kernel_core.specs.Content.{KernelContent}
 use Rattle.kernel_core.specs.Shows.{ShowsMachine}
 use Rattle.kernel_core.specs.Stores.{IsKernel}
 use Rattle.kernel_core.specs.Frames.{IsInSlab, IsFrame}
-use Rattle.kernel_core.specs.Lookups.{BlockAround, BlockUse, UnheldSlot, FreeFrame, PageBlock, SlabBlock, Outcome, FoundBlock, found_block, block_or_frame, answer_to}
+use Rattle.kernel_core.specs.Lookups.{BlockAround, BlockUse, UnheldSlot, FreeFrame, PageBlock, SlabBlock, Outcome, found_block, block_or_frame, answer_to}
 use Rattle.kernel_core.proofs.CallEffects.{steady}
 use Rattle.kernel_core.proofs.OneHolder.{count, count_append, count_in, one_taken, find_only, find_no, none_counted}
 use Rattle.kernel_core.proofs.ShownWellFormed.{any_taken, shown_well_formed}

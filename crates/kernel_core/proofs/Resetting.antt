@@ -1,23 +1,24 @@
 -- The event `reset` takes back all superblocks of a tenant. The event `pool` returns the table of owners.
 use Rattle.model_core.specs.declared.owner.Owner.{Owner}
-use Rattle.std.proofs.Common.{◌≡◌, ◌≢◌, ℕ, ◌+◌, ◌<◌, ◌≤◌, nat_lt, true, if◌then◌else◌, Option, Some, None, length, map, take, count_by, slice_index_or, slice_set, refl, sym, ap, ◌∙◌, ⊎_elim, arith, List, slice_get, subst}
+use Rattle.std.proofs.Common.{◌≡◌, ◌≢◌, ◌⊎◌, inl, inr, ℕ, zero, suc, ◌+◌, ◌<◌, ◌≤◌, ◌==◌, ◌&&◌, nat_lt, Bool, true, false, cond, if◌then◌else◌, Option, Some, None, is_some, length, map, take, count_by, slice_index_or, slice_set, refl, sym, ap, ◌∙◌, ⊎_elim, arith, List, [], ◌∷◌, slice_get, subst}
 use Rattle.std.proofs.lemmas.Bool.{cases_eq, cases_lt, eq-eqb, lt-ltb, le-ltb}
-use Rattle.std.proofs.lemmas.List.{length-set, get_or-set_same, get_or-set_other, get_or-map, get_or_default, get_or_past, same_lists}
-use Rattle.std.proofs.lemmas.List.Sums.{count_by_more_yes}
+use Rattle.std.proofs.lemmas.List.{length-set, get_or-set_same, get_or-set_other, get_or-map, get_or_default, same_lists}
+use Rattle.std.proofs.lemmas.List.Sums.{count_by_more_yes, count_by_more_no, sum_by-cons}
 use Rattle.std.proofs.Math.ListN.{length-map}
-use Rattle.std.proofs.Math.Seq.{take-length}
 use Rattle.std.proofs.lemmas.Option.{slice_get_past}
-use Rattle.space_core.specs.Content.{Content, IsSpace, superblock_at, owner_at, mark_at}
+use Rattle.space_core.specs.Content.{Content, IsSpace, slots_of, superblock_at, owner_at, mark_at}
 use Rattle.space_core.specs.Changes.{with_take_back}
 use Rattle.space_core.specs.Laws.{IsSameFor, OthersStay}
 use Rattle.model_core.specs.Owners.{owned_by, is_of}
 use Rattle.kernel_core.specs.Content.{mark_after, MarksFollow, content_of, KernelContent, PartsAgree}
 use Rattle.kernel_core.specs.GivenUp.{GivesUp, owner_without}
-use Rattle.machine_changes.proofs.Lookups.{some_none}
-use Rattle.kernel_core.proofs.CallEffects.{marks_replaced, has_row, same_sizes}
+use Rattle.machine_changes.proofs.Lookups.{some_none, some_same}
+use Rattle.kernel_core.proofs.CallEffects.{marks_kept, marks_replaced, has_row, same_sizes}
 use Rattle.model_core.specs.Machine.{empty_machine, Machine}
 use Rattle.space_core.specs.Content as spaces
 use Rattle.space_core.proofs.BytesUnderSlots.{same_twice}
+use Rattle.space_core.proofs.Mapping.{superblock-lt}
+use Rattle.machine_changes.proofs.PageHoldings.{same_space}
 use Rattle.buddy_core.specs.Content as buddies
 use Rattle.slab_tables.specs.Content as tables
 use Rattle.slab_tables.specs.Changes.{IsReset}
@@ -32,62 +33,159 @@ use Rattle.words_core.specs.declared.reply.Body.TheVariants.{WasReset, Owners, R
 use Rattle.words_core.specs.declared.reply.Refusal.TheVariants.{NoTenant}
 use Rattle.world_core.specs.Limits.{cache_limit}
 use Rattle.world_core.specs.World.{World, WorldStep, answer, given_up, reset_step, world_step}
-use Rattle.world_core.proofs.OwnListRuns.{is_same, is_other}
+use Rattle.world_core.proofs.OwnListRuns.{is_other}
 use Rattle.kernel_core.specs.Does as calls
 use Rattle.kernel_core.specs.Shows.{Shows}
 use Rattle.kernel_core.specs.Steps.{Steps}
 use Rattle.kernel_core.proofs.KernelToWorld.{steps_done, steps_answered, unnamed}
 
--- Of the first m superblocks, those that tenant t owned are taken back. Their number is `told`.
-pub record IsGivingUp (old now : Content) (t m told : ℕ) : Type 0 where
-  pub small : told ≤ m
-  pub count : told ≡ count_by (is_of t) (take m old.owners)
+-- the owner, or `None` if the owner is a slot of tenant t below `end`
+abbrev pub owner_left : ℕ → ℕ → Option Owner → Option Owner
+owner_left t end None = None
+owner_left t end (Some o) = if (o.tenant == t) && nat_lt o.slot end then None else Some o
+
+-- The first `end` slots of tenant t are taken back. The tenant held `told` of them.
+pub record IsGivingUp (old now : Content) (t end told : ℕ) : Type 0 where
+  pub small : told ≤ end
+  pub count : told ≡ count_by is_some (take end (slots_of old.slots t))
   pub unit : now.unit ≡ old.unit
   pub rows : length now.slots ≡ length old.slots
   pub long : length now.owners ≡ length old.owners
   pub banks : now.banks ≡ old.banks
   pub marks : MarksFollow old now
-  pub owners : (n : ℕ) → owner_at now.owners n ≡ (if nat_lt n m then owner_without t (owner_at old.owners n) else owner_at old.owners n)
+  pub owners : (n : ℕ) → owner_at now.owners n ≡ owner_left t end (owner_at old.owners n)
   pub others : (u : ℕ) → u ≢ t → IsSameFor u old now
 
-still : (old now : Content) (t m told : ℕ) → IsGivingUp old now t m told → owner_at now.owners m ≡ owner_at old.owners m
-still old now t m told g = g.owners m ∙ ap (λ b. if b then owner_without t (owner_at old.owners m) else owner_at old.owners m) (le-ltb m m (omega arith))
+-- what `owner_left` keeps it keeps as it is
+left_some : (t end : ℕ) (o : Option Owner) (p : Owner) → owner_left t end o ≡ Some p → o ≡ Some p
+left_some t end None p is = is
+left_some t end (Some o) p is = go ((o.tenant == t) && nat_lt o.slot end) refl
+  where
+    go : (b : Bool) → ((o.tenant == t) && nat_lt o.slot end) ≡ b → Some o ≡ Some p
+    go true e = absurd (some_none (sym is ∙ ap (λ b. if b then None else Some o) e))
+    go false e = sym (ap (λ b. if b then None else Some o) e) ∙ is
 
-next_less : (n m : ℕ) → n ≢ m → nat_lt n (m + 1) ≡ nat_lt n m
-next_less n m other = ⊎_elim
-    (λ less. lt-ltb n (m + 1) (omega arith) ∙ sym (lt-ltb n m less))
-    (λ le. le-ltb n (m + 1) (omega (arith, other)) ∙ sym (le-ltb n m le))
-    (cases_lt n m)
+-- a slot from `end` on is kept
+left_own : (t end slot : ℕ) → end ≤ slot → owner_left t end (Some (owned_by t slot)) ≡ Some (owned_by t slot)
+left_own t end slot past =
+    ap (λ b. if (t == t) && b then None else Some (owned_by t slot)) (le-ltb slot end past) ∙ ap (λ b. if b && false then None else Some (owned_by t slot)) (eq-eqb t t refl)
 
--- if all superblocks of the tenant below m were taken back, and m is one too, the tenant has none below m + 1 after m is taken
--- back
-pub giving_takes : (old now : Content) (t slot m told : ℕ) → IsGivingUp old now t m told → IsSpace now → OthersStay now → m < length old.owners → owner_at now.owners m ≡ Some (owned_by t slot)
-    → IsGivingUp old (with_take_back now t slot m) t (m + 1) (told + 1)
-giving_takes old now t slot m told g space stay below own =
-    let own_before : owner_at old.owners m ≡ Some (owned_by t slot) = sym (still old now t m told g) ∙ own in
-    let was : is_of t (owner_at old.owners m) ≡ true = ap (is_of t) own_before ∙ is_same t in
-    record {
+left_gone : (t slot : ℕ) → owner_left t (slot + 1) (Some (owned_by t slot)) ≡ None
+left_gone t slot =
+    ap (λ b. if (t == t) && b then None else Some (owned_by t slot)) (lt-ltb slot (slot + 1) (omega arith)) ∙ ap (λ b. if b && true then None else Some (owned_by t slot)) (eq-eqb t t refl)
+
+-- an owner that is not slot `end` of tenant t is kept below end + 1 exactly if it is kept below `end`
+left_more : (t end : ℕ) (o : Option Owner) → o ≢ Some (owned_by t end) → owner_left t (end + 1) o ≡ owner_left t end o
+left_more t end None other = refl
+left_more t end (Some o) other = ap (λ b. if b then None else Some o) (go (cases_eq o.tenant t) (cases_eq o.slot end))
+  where
+    go : (o.tenant ≡ t) ⊎ (o.tenant ≡ t → ⊥) → (o.slot ≡ end) ⊎ (o.slot ≡ end → ⊥) → ((o.tenant == t) && nat_lt o.slot (end + 1)) ≡ ((o.tenant == t) && nat_lt o.slot end)
+    go (inl tenant) (inl slot) = absurd (other (ap (λ x. Some (owned_by x o.slot)) tenant ∙ ap (λ x. Some (owned_by t x)) slot))
+    go tenant (inr ne) = ap (λ b. (o.tenant == t) && b) (⊎_elim
+        (λ less. lt-ltb o.slot (end + 1) (omega arith) ∙ sym (lt-ltb o.slot end less))
+        (λ le. le-ltb o.slot (end + 1) (omega (arith, ne)) ∙ sym (le-ltb o.slot end le))
+        (cases_lt o.slot end))
+    go (inr ne) (inl slot) = ap (λ b. b && nat_lt o.slot (end + 1)) (is_other o.tenant t ne) ∙ sym (ap (λ b. b && nat_lt o.slot end) (is_other o.tenant t ne))
+
+pub giving_none : (old : Content) (t : ℕ) → IsSpace old → IsGivingUp old old t 0 0
+giving_none old t space = record {
+  small = omega arith;
+  count = refl;
+  unit = refl;
+  rows = refl;
+  long = refl;
+  banks = refl;
+  marks = marks_kept old old refl refl;
+  owners = λ n. first (owner_at old.owners n);
+  others = λ u other. same_space u old;
+}
+  where
+    first : (o : Option Owner) → o ≡ owner_left t 0 o
+    first None = refl
+    first (Some o) = sym (ap (λ b. if (o.tenant == t) && b then None else Some o) (le-ltb o.slot 0 (omega arith)) ∙ no_more (o.tenant == t))
+      where
+        no_more : (b : Bool) → (if b && false then None else Some o) ≡ Some o
+        no_more true = refl
+        no_more false = refl
+
+module _ (old now : Content) (t end told : ℕ) (g : IsGivingUp old now t end told) (before : IsSpace old) (space : IsSpace now) (row : end < length (slots_of old.slots t)) where
+  -- superblock m is in slot `end`, which is taken back next
+  module _ (stay : OthersStay now) (m : ℕ) (here : superblock_at now.slots t end ≡ Some m) where
+    own : owner_at now.owners m ≡ Some (owned_by t end)
+    own = (space.agree t end m).0 here
+
+    own_before : owner_at old.owners m ≡ Some (owned_by t end)
+    own_before = left_some t end (owner_at old.owners m) (owned_by t end) (sym (g.owners m) ∙ own)
+
+    held_before : superblock_at old.slots t end ≡ Some m
+    held_before = (before.agree t end m).1 own_before
+
+    -- no other superblock is in the slot
+    alone : (n : ℕ) → n ≢ m → owner_at old.owners n ≢ Some (owned_by t end)
+    alone n other is = other (some_same (sym ((before.agree t end n).1 is) ∙ held_before))
+
+    below : m < length now.owners
+    below = superblock-lt space t end m here
+
+    pub giving_takes : IsGivingUp old (with_take_back now t end m) t (end + 1) (told + 1)
+    giving_takes = record {
       small = omega (arith, g.small);
-      count = ap (λ n. n + 1) g.count ∙ sym (count_by_more_yes (is_of t) old.owners m None below was);
+      count = ap (λ n. n + 1) g.count ∙ sym (count_by_more_yes is_some (slots_of old.slots t) end None row (ap is_some held_before));
       unit = g.unit;
       rows = length-set now.slots t _ ∙ g.rows;
       long = length-set now.owners m None ∙ g.long;
       banks = g.banks;
-      marks = marks_replaced old now m None true g.marks (omega (arith, g.long)) (omega (arith, g.long, space.flagged))
+      marks = marks_replaced old now m None true g.marks below (omega (arith, below, space.flagged))
           (ap (λ o. mark_after o None (mark_at old.marks m)) own_before);
       owners = λ n. ⊎_elim
           (λ same.
-          let here : nat_lt n (m + 1) ≡ true = lt-ltb n (m + 1) (omega arith) in
           ap (λ i. slice_index_or (slice_set now.owners m None) i None) same
-          ∙ get_or-set_same now.owners m None None (omega (arith, g.long))
-          ∙ sym (ap (λ b. if b then None else owner_at old.owners m) was)
-          ∙ ap (λ i. owner_without t (owner_at old.owners i)) (sym same)
-          ∙ sym (ap (λ b. if b then owner_without t (owner_at old.owners n) else owner_at old.owners n) here))
-          (λ other. get_or-set_other now.owners m n None None other
-          ∙ g.owners n ∙ ap (λ b. if b then owner_without t (owner_at old.owners n) else owner_at old.owners n) (sym (next_less n m other)))
+          ∙ get_or-set_same now.owners m None None below
+          ∙ sym (left_gone t end)
+          ∙ ap (owner_left t (end + 1)) (sym own_before)
+          ∙ ap (λ i. owner_left t (end + 1) (owner_at old.owners i)) (sym same))
+          (λ other. get_or-set_other now.owners m n None None other ∙ g.owners n ∙ sym (left_more t end (owner_at old.owners n) (alone n other)))
           (cases_eq n m);
-      others = λ u other. same_twice u old now (with_take_back now t slot m) (g.others u other) (stay.take_back t slot m u other);
+      others = λ u other. same_twice u old now (with_take_back now t end m) (g.others u other) (stay.take_back t end m u other);
     }
+
+  -- slot `end` is not held
+  module _ (none : superblock_at now.slots t end ≡ None) where
+    no_owner : (n : ℕ) → owner_at old.owners n ≢ Some (owned_by t end)
+    no_owner n is =
+        let own : owner_at now.owners n ≡ Some (owned_by t end) = g.owners n ∙ ap (owner_left t end) is ∙ left_own t end end (omega arith) in
+        some_none (sym ((space.agree t end n).1 own) ∙ none)
+
+    not_held : (o : Option ℕ) → superblock_at old.slots t end ≡ o → is_some o ≡ false
+    not_held None here = refl
+    not_held (Some n) here = absurd (no_owner n ((before.agree t end n).0 here))
+
+    pub giving_passes : IsGivingUp old now t (end + 1) told
+    giving_passes = record {
+      small = omega (arith, g.small);
+      count = g.count ∙ sym (count_by_more_no is_some (slots_of old.slots t) end None row (not_held (superblock_at old.slots t end) refl));
+      unit = g.unit;
+      rows = g.rows;
+      long = g.long;
+      banks = g.banks;
+      marks = g.marks;
+      owners = λ n. g.owners n ∙ sym (left_more t end (owner_at old.owners n) (no_owner n));
+      others = g.others;
+    }
+
+-- the entries from `end` on do not count if they are None
+counted_front : (xs : List (Option ℕ)) (end : ℕ) → ((u : ℕ) → end ≤ u → slice_index_or xs u None ≡ None) → count_by is_some (take end xs) ≡ count_by is_some xs
+counted_front [] zero rest = refl
+counted_front [] (suc end) rest = refl
+counted_front (x ∷ xs) zero rest =
+    let more : count_by is_some (x ∷ xs) ≡ cond {A = ℕ} (is_some x) 1 0 + count_by is_some xs = sum_by-cons (λ y. cond (is_some y) 1 0) x xs in
+    let none : cond {A = ℕ} (is_some x) 1 0 ≡ 0 = ap (λ (y : Option ℕ). cond {A = ℕ} (is_some y) 1 0) (rest 0 (omega arith)) in
+    let same : count_by is_some xs ≡ count_by is_some (x ∷ xs) = omega (arith, more, none) in
+    counted_front xs zero (λ u le. rest (suc u) (omega arith)) ∙ same
+counted_front (x ∷ xs) (suc end) rest =
+    sum_by-cons (λ y. cond (is_some y) 1 0) x (take end xs)
+    ∙ ap (λ n. cond (is_some x) 1 0 + n) (counted_front xs end (λ u le. rest (suc u) (omega arith)))
+    ∙ sym (sum_by-cons (λ y. cond (is_some y) 1 0) x xs)
 
 -- the result of `owner_without t` is never a slot of tenant t
 never_own : (t slot : ℕ) (o : Option Owner) → owner_without t o ≡ Some (owned_by t slot) → ⊥
@@ -102,39 +200,43 @@ never_own t slot (Some o) is = ⊎_elim
     tenant_of : (a b : Owner) → Some a ≡ Some b → a.tenant ≡ b.tenant
     tenant_of a b e = let same : a ≡ b = cc in ap (λ (p : Owner). p.tenant) same
 
-past_all : (old now : Content) (t m told : ℕ) → IsGivingUp old now t m told → length old.owners ≤ m → (n : ℕ) → n < length old.owners
-    → owner_at now.owners n ≡ owner_without t (owner_at old.owners n)
-past_all old now t m told g all n below =
-    g.owners n ∙ ap (λ b. if b then owner_without t (owner_at old.owners n) else owner_at old.owners n) (lt-ltb n m (omega arith))
+module _ (old now : Content) (t end told : ℕ) (before : IsSpace old) (space : IsSpace now) (g : IsGivingUp old now t end told) (known : t < length old.slots)
+    (rest : (u : ℕ) → end ≤ u → superblock_at old.slots t u ≡ None) where
+  -- all slots of the tenant are below `end`, so none of them is kept
+  left_none : (n : ℕ) (o : Option Owner) → owner_at old.owners n ≡ o → owner_left t end o ≡ owner_without t o
+  left_none n None is = refl
+  left_none n (Some o) is = ap (λ b. if b then None else Some o) (⊎_elim
+      (λ same.
+      let slot : o.slot < end = ⊎_elim (λ less. less)
+      (λ past. absurd (some_none (sym ((before.agree t o.slot n).1 (is ∙ ap (λ x. Some (owned_by x o.slot)) same)) ∙ rest o.slot past)))
+      (cases_lt o.slot end) in
+      ap (λ b. (o.tenant == t) && b) (lt-ltb o.slot end slot) ∙ ap (λ b. b && true) (eq-eqb o.tenant t same) ∙ sym (eq-eqb o.tenant t same))
+      (λ other. ap (λ b. b && nat_lt o.slot end) (is_other o.tenant t other) ∙ sym (is_other o.tenant t other))
+      (cases_eq o.tenant t))
 
-pub giving_ends : (old now : Content) (t told : ℕ) → IsSpace now → IsGivingUp old now t (length old.owners) told → GivesUp old now t told
-giving_ends old now t told space g = record {
-  count = g.count ∙ ap (λ os. count_by (is_of t) os) (take-length old.owners);
-  unit = g.unit;
-  rows = g.rows;
-  owners = same_lists now.owners (map (owner_without t) old.owners) (g.long ∙ sym (length-map old.owners (owner_without t)))
-      (λ n d below.
-      let within : n < length old.owners = omega (arith, g.long, below) in
-      get_or_default now.owners n d None below
-      ∙ past_all old now t (length old.owners) told g (omega arith) n within
-      ∙ sym (get_or-map (owner_without t) old.owners n None d within));
-  banks = g.banks;
-  marks = g.marks;
-  slots = λ slot. none_at slot (superblock_at now.slots t slot) refl;
-  others = g.others;
-}
-  where
-    owned_below : (n : ℕ) (p : Owner) → owner_at now.owners n ≡ Some p → n < length old.owners
-    owned_below n p own = ⊎_elim (λ below. below)
-        (λ past. absurd (some_none (sym own ∙ get_or_past now.owners n None (omega (arith, g.long)))))
-        (cases_lt n (length old.owners))
+  taken_owner : (n : ℕ) → owner_at now.owners n ≡ owner_without t (owner_at old.owners n)
+  taken_owner n = g.owners n ∙ left_none n (owner_at old.owners n) refl
 
-    none_at : (slot : ℕ) (o : Option ℕ) → superblock_at now.slots t slot ≡ o → o ≡ None
-    none_at slot None here = refl
-    none_at slot (Some n) here =
-        let own : owner_at now.owners n ≡ Some (owned_by t slot) = (space.agree t slot n).0 here in
-        absurd (never_own t slot (owner_at old.owners n)
-        (sym (past_all old now t (length old.owners) told g (omega arith) n (owned_below n (owned_by t slot) own)) ∙ own))
+  none_at : (slot : ℕ) (o : Option ℕ) → superblock_at now.slots t slot ≡ o → o ≡ None
+  none_at slot None here = refl
+  none_at slot (Some n) here = absurd (never_own t slot (owner_at old.owners n) (sym (taken_owner n) ∙ (space.agree t slot n).0 here))
+
+  pub giving_ends : GivesUp old now t told
+  giving_ends = record {
+    count = g.count ∙ counted_front (slots_of old.slots t) end rest ∙ before.counted t known;
+    unit = g.unit;
+    rows = g.rows;
+    owners = same_lists now.owners (map (owner_without t) old.owners) (g.long ∙ sym (length-map old.owners (owner_without t)))
+        (λ n d below.
+        let within : n < length old.owners = omega (arith, g.long, below) in
+        get_or_default now.owners n d None below
+        ∙ taken_owner n
+        ∙ sym (get_or-map (owner_without t) old.owners n None d within));
+    banks = g.banks;
+    marks = g.marks;
+    slots = λ slot. none_at slot (superblock_at now.slots t slot) refl;
+    others = g.others;
+  }
 
 -- All superblocks of tenant t are taken back, and afterwards the tenant has no cache. `told` is the number of superblocks taken
 -- back.

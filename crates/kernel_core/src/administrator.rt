@@ -1,6 +1,7 @@
 //! The commands of the administrator: grants, take-backs, resets and moves of superblocks, and the table of owners.
 
-ghost use Rattle.std.specs.Prelude.{◌≡◌, ◌<◌, ◌≤◌, false, length, IfOk};
+ghost use Rattle.std.specs.Prelude.{◌≡◌, ℕ, ◌<◌, ◌≤◌, false, None, length, IfOk};
+ghost use Rattle.space_core.specs.Content.{superblock_at};
 ghost use Rattle.words_core.specs.Requests.{body_of_answer, HasFewBytes, has_bytes};
 ghost use Rattle.words_core.specs.declared.event.Event.TheVariants as On;
 ghost use Rattle.words_core.specs.declared.event.AdminCommand.TheVariants as Do;
@@ -80,9 +81,10 @@ impl Kernel {
             return Err(Refusal::NoTenant);
         };
         self.laws();
+        let end = self.buddy.slots_end(t);
         self.buddy.reset(t);
         self.slabs.reset(t);
-        let superblocks = give_up(&mut self.space, self.buddy.superblocks(), t);
+        let superblocks = give_up(&mut self.space, end, t);
         Ok(Answer::WasReset {
             tenant: t,
             superblocks,
@@ -152,23 +154,19 @@ fn copied(owners: &[Option<Owner>]) -> ArrayVec<Option<Owner>, OWNERS>
     copied
 }
 
-/// Takes back all superblocks of tenant `t` and returns their number.
-fn give_up(space: &mut Space, superblocks: u16, t: u8) -> u16
+/// Takes back all superblocks of tenant `t` and returns their number. Each slot that the tenant holds is below `end`.
+fn give_up(space: &mut Space, end: u16, t: u8) -> u16
     requires tenant { t < length space.old.slots }
-    requires all { superblocks ≡ length space.old.owners }
+    requires end { end ≤ length space.old.owners }
+    requires rest { (u : ℕ) → end ≤ u → superblock_at space.old.slots t u ≡ None }
     ensures { GivesUp space.old space.new t result }
 {
+    space.laws();
     let mut count = 0;
-    for m in 0..superblocks {
-        let Some(owner) = space.owner_of(m) else {
-            continue;
-        };
-        if owner.tenant != t {
-            continue;
-        }
+    for slot in 0..end {
         space.laws();
-        let Ok(_) = space.take_back(t, u32::from(owner.slot)) else {
-            unreachable!()
+        let Ok(_) = space.take_back(t, u32::from(slot)) else {
+            continue;
         };
         count += 1;
     }

@@ -2,13 +2,14 @@ use Rattle.std.proofs.Common.{◌≡◌, refl, sym, ◌∙◌, ap, subst, ℕ, �
 use Rattle.std.proofs.lemmas.List.{get_or_read}
 use Rattle.std.proofs.lemmas.Option.{none-some}
 use Rattle.buddy_core.specs.declared.Buddy.TheInside.{Inside}
-use Rattle.buddy_core.specs.Content.{with_holding, nothing_held}
-use Rattle.buddy_core.specs.Stored.{StoredSuperblock, StoredTenant, bare_superblock, bare_tenant, stored_tenant, superblock_at, content_shown}
+use Rattle.buddy_core.specs.Content as contents
+use Rattle.buddy_core.specs.Content.{Content, holding_of, with_holding, nothing_held}
+use Rattle.buddy_core.specs.Stored.{StoredSuperblock, StoredTenant, bare_superblock, bare_tenant, stored_tenant, superblock_at, holding_shown, content_shown}
 use Rattle.buddy_core.specs.Summary.{AreBounded}
 use Rattle.buddy_core.specs.Kept.{IsKept, HasTenantSizes}
 use Rattle.buddy_core.proofs.ContentShown.{shown_is, slot_read, blank_of, bare_of}
 use Rattle.buddy_core.proofs.NothingHeld.{cleared_tenant}
-use Rattle.buddy_core.proofs.TenantReset.{Cleared, cleared_none, cleared_past, cleared_more, next_order, reset_kept, reset_shown, reset_bounded}
+use Rattle.buddy_core.proofs.TenantReset.{Cleared, cleared_none, cleared_past, cleared_more, cleared_on, next_order, reset_kept, reset_shown, reset_bounded}
 use Rattle.buddy_core.proofs.Buddy.reset.Goals as goal
 
 pub loop-slot-init : goal.loop-slot-init
@@ -28,7 +29,7 @@ loop-slot-preserved c =
     elim c.match-superblock_at.branch [
       | goal.in-Some w ↦
           let m = w.in-Some.m in
-          let at = slot_read a.tenants.items c.args.t c.index.result.now s.listed read l.slot (Some m) w.in-Some.ensures in
+          let at = slot_read a.tenants.items c.args.t c.index.result.now s.listed read l.slot (Some m) (w.in-Some.ensures ∙ ap (superblock_at c.index.result.now) c.from.ensures) in
           let m_lt = (c.self.invariant.0.each c.args.t s.listed).within l.slot m at in
           let now_lt : m < length superblocks = subst (λ n. m < n) (sym l.invariant.0.size) m_lt in
           let order = next_order a.order a.superblocks.items superblocks tenant l.slot m at (c.self.invariant.0.order m m_lt) apart l.invariant.0 in
@@ -41,7 +42,7 @@ loop-slot-preserved c =
             ap (λ (z : Inside). z.summaries.items) w.self-inside-is ∙ l.invariant.3,
           )
       | goal.in_default w ↦
-          let at = slot_read a.tenants.items c.args.t c.index.result.now s.listed read l.slot None w.in_default.ensures in (
+          let at = slot_read a.tenants.items c.args.t c.index.result.now s.listed read l.slot None (w.in_default.ensures ∙ ap (superblock_at c.index.result.now) c.from.ensures) in (
             subst (λ (xs : List StoredSuperblock). Cleared a.order a.superblocks.items xs tenant (l.slot + 1)) (sym (ap (λ (z : Inside). z.superblocks.items) w.self-inside-is))
                 (cleared_past a.order a.superblocks.items superblocks tenant l.slot (λ m there. none-some m (sym at ∙ there)) l.invariant.0),
             ap (λ (z : Inside). z.tenants.items) w.self-inside-is ∙ l.invariant.1,
@@ -49,6 +50,12 @@ loop-slot-preserved c =
             ap (λ (z : Inside). z.summaries.items) w.self-inside-is ∙ l.invariant.3,
           )
     ]
+
+-- the loop ends at `end`, and the tenant holds no slot from `end` on
+all_cleared : (top : ℕ) (before after : List StoredSuperblock) (tenant : StoredTenant) (t : ℕ) (now : Content) → holding_of t now ≡ holding_shown top before tenant → (end slot : ℕ) → end ≤ slot
+    → ((u : ℕ) → end ≤ u → contents.superblock_at (holding_of t now) u ≡ None) → (n : ℕ) → Cleared top before after tenant slot → Cleared top before after tenant (slot + n)
+all_cleared top before after tenant t now holding end slot ended rest n c =
+    cleared_on top before after tenant slot c (λ u le. sym (ap (λ h. contents.superblock_at h u) holding) ∙ rest u (omega arith)) n
 
 -- if the slots and counts of tenant t are cleared, the tenant holds nothing
 tenant_cleared : (top n : ℕ) (now tenants : List StoredTenant) (t : ℕ) (old new : StoredTenant) → now ≡ tenants → t < length tenants → old ≡ get_or now t old → HasTenantSizes top n (stored_tenant t tenants)
@@ -61,11 +68,13 @@ invariant_of-self c =
     let a = c.self.inside in
     let s = shown_is a.order a.superblocks.items a.tenants.items c.args.t c.args.self.now c.self.view_is c.requires in
     let l = c.loop-slot in
-    let all : length a.superblocks.items ≤ l.slot = omega (arith, a.superblocks.ok.0) in
+    let past = l.slot + length a.superblocks.items in
+    let cleared = all_cleared a.order a.superblocks.items l.self-inside.superblocks.items (stored_tenant c.args.t a.tenants.items) c.args.t c.args.self.now s.holding c.slots_end-end.result l.slot (omega arith) c.slots_end-end.ensures.rest
+    (length a.superblocks.items) l.invariant.0 in
     let tenant = tenant_cleared a.order (length a.superblocks.items) l.self-inside.tenants.items a.tenants.items c.args.t c.index_mut-2.result.now c.clear-2.new.self l.invariant.1 s.listed c.index_mut-2.ensures.value
     (c.self.invariant.0.each c.args.t s.listed).sizes c.clear-2.ensures.slots c.clear-2.ensures.free c.clear-2.ensures.taken in
-    let base = reset_kept a.order a.superblocks.items a.tenants.items c.self.invariant.0 c.args.t s.listed l.self-inside.superblocks.items l.slot all l.invariant.0 in
-    let bounded = reset_bounded a.order a.superblocks.items a.tenants.items c.self.invariant.0 c.args.t s.listed l.self-inside.superblocks.items l.slot all l.invariant.0 a.summaries.items c.self.invariant.1 in (
+    let base = reset_kept a.order a.superblocks.items a.tenants.items c.self.invariant.0 c.args.t s.listed l.self-inside.superblocks.items past (omega arith) cleared in
+    let bounded = reset_bounded a.order a.superblocks.items a.tenants.items c.self.invariant.0 c.args.t s.listed l.self-inside.superblocks.items past (omega arith) cleared a.summaries.items c.self.invariant.1 in (
       subst (λ n. IsKept n l.self-inside.superblocks.items (set l.self-inside.tenants.items c.args.t c.clear-2.new.self)) (sym l.invariant.2)
           (subst (λ (xs : List StoredTenant). IsKept a.order l.self-inside.superblocks.items (set xs c.args.t c.clear-2.new.self)) (sym l.invariant.1)
           (subst (λ (r : StoredTenant). IsKept a.order l.self-inside.superblocks.items (set a.tenants.items c.args.t r)) (sym tenant) base)),
@@ -79,10 +88,12 @@ returns c =
     let a = c.self.inside in
     let s = shown_is a.order a.superblocks.items a.tenants.items c.args.t c.args.self.now c.self.view_is c.requires in
     let l = c.loop-slot in
-    let all : length a.superblocks.items ≤ l.slot = omega (arith, a.superblocks.ok.0) in
+    let past = l.slot + length a.superblocks.items in
+    let cleared = all_cleared a.order a.superblocks.items l.self-inside.superblocks.items (stored_tenant c.args.t a.tenants.items) c.args.t c.args.self.now s.holding c.slots_end-end.result l.slot (omega arith) c.slots_end-end.ensures.rest
+    (length a.superblocks.items) l.invariant.0 in
     let tenant = tenant_cleared a.order (length a.superblocks.items) l.self-inside.tenants.items a.tenants.items c.args.t c.index_mut-2.result.now c.clear-2.new.self l.invariant.1 s.listed c.index_mut-2.ensures.value
     (c.self.invariant.0.each c.args.t s.listed).sizes c.clear-2.ensures.slots c.clear-2.ensures.free c.clear-2.ensures.taken in
-    let shown = reset_shown a.order a.superblocks.items a.tenants.items c.self.invariant.0 c.args.t s.listed l.self-inside.superblocks.items l.slot all l.invariant.0 in
+    let shown = reset_shown a.order a.superblocks.items a.tenants.items c.self.invariant.0 c.args.t s.listed l.self-inside.superblocks.items past (omega arith) cleared in
     ap (λ n. content_shown n l.self-inside.superblocks.items (set l.self-inside.tenants.items c.args.t c.clear-2.new.self)) l.invariant.2
     ∙ ap (λ (xs : List StoredTenant). content_shown a.order l.self-inside.superblocks.items (set xs c.args.t c.clear-2.new.self)) l.invariant.1
     ∙ ap (λ (r : StoredTenant). content_shown a.order l.self-inside.superblocks.items (set a.tenants.items c.args.t r)) tenant

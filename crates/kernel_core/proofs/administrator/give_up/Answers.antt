@@ -1,22 +1,28 @@
-use Rattle.model_core.specs.Owners.{owned_by}
-use Rattle.std.proofs.Common.{◌≡◌, Some, length, sym, ap, ◌∙◌, subst, arith}
-use Rattle.space_core.specs.Content.{owner_at, superblock_at}
-use Rattle.machine_changes.proofs.Lookups.{some_same}
-use Rattle.kernel_core.proofs.Resetting.{IsGivingUp, giving_takes, giving_ends}
+use Rattle.std.proofs.Common.{◌≡◌, ◌<◌, Some, None, length, sym, ap, ◌∙◌, arith}
+use Rattle.space_core.specs.Content.{superblock_at, slots_of}
+use Rattle.kernel_core.proofs.Resetting.{giving_none, giving_takes, giving_passes, giving_ends}
 use Rattle.kernel_core.proofs.administrator.give_up.Goals as goal
 
-pub loop-m-preserved : goal.loop-m-preserved
-loop-m-preserved c =
-    let own : owner_at c.loop-m.space.owners c.loop-m.m ≡ Some (owned_by c.args.t c.in-Some.owner.slot) =
-    sym c.owner_of.ensures ∙ c.in-Some.is ∙ ap (λ x. Some (owned_by x c.in-Some.owner.slot)) c.if-owner-t.false in
-    let same : c.in-Ok.field-0 ≡ c.loop-m.m =
-    some_same (sym c.in-Ok.ensures.superblock ∙ ap (λ u. superblock_at c.loop-m.space.slots c.args.t u) c.from.ensures
-    ∙ (c.laws.ensures.facts.agree c.args.t c.in-Some.owner.slot c.loop-m.m).1 own) in
-    rw (c.in-Ok.ensures.ok, c.from.ensures, same)
-    (giving_takes c.args.space.now c.loop-m.space c.args.t c.in-Some.owner.slot c.loop-m.m c.loop-m.count c.loop-m.invariant c.laws.ensures.facts c.laws.ensures.others (omega arith) own)
+pub loop-slot-init : goal.loop-slot-init
+loop-slot-init c = giving_none c.args.space.now c.args.t c.laws.ensures.facts
+
+pub loop-slot-preserved : goal.loop-slot-preserved
+loop-slot-preserved c =
+    let row : c.loop-slot.slot < length (slots_of c.args.space.now.slots c.args.t) = omega (arith, c.laws.ensures.facts.rows c.args.t c.requires.tenant) in
+    let here : superblock_at c.loop-slot.space.slots c.args.t c.loop-slot.slot ≡ Some c.in-Ok.field-0
+    = ap (superblock_at c.loop-slot.space.slots c.args.t) (sym c.from.ensures) ∙ c.in-Ok.ensures.superblock in
+    rw (c.in-Ok.ensures.ok, c.from.ensures)
+    (giving_takes c.args.space.now c.loop-slot.space c.args.t c.loop-slot.slot c.loop-slot.count c.loop-slot.invariant c.laws.ensures.facts c.laws-in-loop-slot.ensures.facts row c.laws-in-loop-slot.ensures.others c.in-Ok.field-0 here)
+
+pub loop-slot-preserved-in_default : goal.loop-slot-preserved-in_default
+loop-slot-preserved-in_default c =
+    let row : c.loop-slot.slot < length (slots_of c.args.space.now.slots c.args.t) = omega (arith, c.laws.ensures.facts.rows c.args.t c.requires.tenant) in
+    let none : superblock_at c.loop-slot.space.slots c.args.t c.loop-slot.slot ≡ None
+    = ap (superblock_at c.loop-slot.space.slots c.args.t) (sym c.from.ensures) ∙ c.in_default.ensures.superblock in
+    rw c.in_default.ensures.err
+    (giving_passes c.args.space.now c.loop-slot.space c.args.t c.loop-slot.slot c.loop-slot.count c.loop-slot.invariant c.laws.ensures.facts c.laws-in-loop-slot.ensures.facts row none)
 
 pub returns : goal.returns
 returns c =
-    let all : c.loop-m.m ≡ length c.args.space.now.owners = omega arith in
-    giving_ends c.args.space.now c.loop-m.space c.args.t c.loop-m.count c.laws-2.ensures.facts
-    (subst (λ n. IsGivingUp c.args.space.now c.loop-m.space c.args.t n c.loop-m.count) all c.loop-m.invariant)
+    giving_ends c.args.space.now c.loop-slot.space c.args.t c.loop-slot.slot c.loop-slot.count c.laws.ensures.facts c.laws-2.ensures.facts c.loop-slot.invariant c.requires.tenant
+    (λ u le. c.requires.rest u (omega arith))
