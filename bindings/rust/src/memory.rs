@@ -35,12 +35,14 @@ impl Config {
         let (superblocks, tenants) = (self.superblocks as usize, self.tenants as usize);
         let of_all = power_of_2(superblocks) << self.order.saturating_sub(5);
         let groups = if of_all > 64 { of_all } else { 64 };
+        let set_bytes = (superblocks + 127) / 128 * 16;
         (FRAME_BYTES << self.order)
-            + 256
+            + 336
             + 112 * power_of_2(superblocks)
             + 288 * power_of_2(tenants)
             + superblocks * (32 + (225 << self.order) / 8)
-            + tenants * (4216 + 8 * superblocks + 12 * groups)
+            + set_bytes
+            + tenants * (3232 + 4 * power_of_2(superblocks) + 8 * superblocks + set_bytes + 12 * groups)
     }
 
     /// Returns the offset of the `partmem_machine` in the tables, in bytes. It lies after the library's part.
