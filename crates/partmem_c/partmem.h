@@ -204,15 +204,15 @@ typedef struct partmem_memory {
 #define PARTMEM_RAM_BYTES(order, superblocks) ((size_t)(superblocks) * PARTMEM_FRAME_BYTES << (order))
 #define PARTMEM_TABLE_BYTES(order, superblocks, tenants)                                                                        \
     (((size_t)4096 << (order)) + 336 + 112 * PARTMEM_POWER_OF_2(superblocks) + 288 * PARTMEM_POWER_OF_2(tenants) +              \
-     (size_t)(superblocks) * (32 + ((size_t)225 << (order)) / 8) + PARTMEM_SET_BYTES(superblocks) +                             \
+     (size_t)(superblocks) * (32 + ((size_t)225 << (order)) / 8) + PARTMEM_SET_SIZE(superblocks) +                              \
      (size_t)(tenants) * (3232 + 4 * PARTMEM_POWER_OF_2(superblocks) + 8 * (size_t)(superblocks) +                              \
-                          PARTMEM_SET_BYTES(superblocks) + 12 * PARTMEM_GROUPS(order, superblocks)))
+                          PARTMEM_SET_SIZE(superblocks) + 12 * PARTMEM_GROUPS(order, superblocks)))
 
 /* Parts of PARTMEM_TABLE_BYTES: the least power of 2 that is at least 4 and at least n, the bytes of a set of n numbers, and the
  * number of groups of frames. */
 #define PARTMEM_POWER_OF_2(n)                                                                                                   \
     ((size_t)((n) <= 4 ? 4 : (n) <= 8 ? 8 : (n) <= 16 ? 16 : (n) <= 32 ? 32 : (n) <= 64 ? 64 : (n) <= 128 ? 128 : 256))
-#define PARTMEM_SET_BYTES(n) (((size_t)(n) + 127) / 128 * 16)
+#define PARTMEM_SET_SIZE(n) (((size_t)(n) + 127) / 128 * 16)
 #define PARTMEM_GROUPS(order, superblocks)                                                                                      \
     ((PARTMEM_POWER_OF_2(superblocks) << ((order) > 5 ? (order) - 5 : 0)) > 64                                                  \
          ? (PARTMEM_POWER_OF_2(superblocks) << ((order) > 5 ? (order) - 5 : 0))                                                 \
