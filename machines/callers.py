@@ -1,11 +1,13 @@
 """Finds, for from-malloc, which callers of malloc allocated the blocks that are live at the peak: when most bytes are live."""
 import collections
+import functools
 import os
 import shutil
 import subprocess
 import time
 
 import summary
+import tenants
 
 MAX_ROWS, MAX_LOOKED_UP, MAX_CHARACTERS = 20, 1000, 80
 MAX_SECONDS, MAX_BYTES = 60, 1 << 32  # the time for all runs of addr2line together; the size of a file that it reads
@@ -29,9 +31,13 @@ class Callers:
         self.calls = collections.defaultdict(Calls)     # by caller
         self.blocks = {}                                # by pointer: the Calls of the block's caller, and its bytes
         self.total = self.most = self.peaks = 0         # live bytes now and at most; how often `most` has risen
+        self.line = 0                                   # of the trace, after which most bytes are live
 
-    def allocate(self, pointer, size, caller):
+    def allocate(self, pointer, size, caller, line):
+        """Notes an allocation. The trace has met its request after `line`."""
         self.free(pointer)
+        if self.total + size > self.most:
+            self.line = line
         calls = self.calls[caller]
         self.blocks[pointer] = calls, size
         self.change(calls, size, 1)
@@ -58,6 +64,15 @@ class Callers:
         then = [(calls.then if calls.peak == self.peaks else (calls.size, calls.count), caller)
                 for caller, calls in self.calls.items()]
         return sorted(((size, count, caller) for (size, count), caller in then if count), key=lambda it: (-it[0], str(it[2])))
+
+    @functools.cached_property
+    def rows(self):
+        """(bytes, blocks, name) for each of the MAX_ROWS names with the most bytes at the peak, and for all others together."""
+        named = by_name(self.at_peak())
+        shown, rest = named[:MAX_ROWS], named[MAX_ROWS:]
+        if rest:
+            shown.append((sum(size for size, _, _ in rest), sum(count for _, count, _ in rest), f'{len(rest)} others'))
+        return shown
 
 
 def is_plain(path):
@@ -111,10 +126,13 @@ def by_name(rows):
 
 def tell(callers):
     """Prints a row for each of the MAX_ROWS names with the most bytes at the peak, and one for all others together."""
-    rows = by_name(callers.at_peak())
     summary.heading(f'when most bytes were live, {callers.most} of them: bytes and allocations by the caller of malloc')
-    shown, rest = rows[:MAX_ROWS], rows[MAX_ROWS:]
-    if rest:
-        shown.append((sum(size for size, _, _ in rest), sum(count for _, count, _ in rest), f'{len(rest)} others'))
-    for size, count, name in shown:
+    for size, count, name in callers.rows:
         summary.row(size, f'{count:>10} {name}')
+
+
+def remarks(tenant, callers):
+    """Yields comments for the trace, with the rows that `tell` prints for this tenant."""
+    yield f'# tenant {tenant} has most bytes live after line {callers.line}: {callers.most}'
+    for size, count, name in callers.rows:
+        yield tenants.remark(f'# tenant {tenant} then has {size} bytes in {count} {summary.plural("block", count)} of ', name)

@@ -177,10 +177,16 @@ def opened(path):
         fail(f'cannot read {path}: {reason(problem)}')
 
 
-def write(line, what='the trace'):
-    """Writes a line of the trace, or of `what`."""
+class Written:
+    """How many lines are written."""
+    lines = 0
+
+
+def write(lines, what='the trace'):
+    """Writes a line of the trace, or of `what`; or several, with a line feed between two."""
+    Written.lines += 1 + lines.count('\n')
     try:
-        print(line)
+        print(lines)
     except OSError as problem:
         cannot_write(problem, what)
 
@@ -200,9 +206,9 @@ def cannot_write(problem, what):
     fail(f'cannot write {what}: {reason(problem)}')
 
 
-def remark(number, name):
-    """Returns the comment line of a trace that names a tenant. If the name is too long for a line, its middle is left out."""
-    begin, shown = f'# tenant {number} is ', visible(name).encode()
+def remark(begin, name):
+    """Returns a comment line of a trace that ends with a name. If the name is too long for a line, its middle is left out."""
+    shown = visible(name).encode()
     most = MAX_BYTES - len(begin)
     if len(shown) > most:
         shown = shown[:BYTES_BEGUN] + b'..' + shown[BYTES_BEGUN + 2 - most:]
@@ -288,6 +294,10 @@ class Machine:
             fail(f'cannot run {given.partmem}: {reason(problem)}')
         write(f'# partmem {sizes}')
 
+    def line(self):
+        """Returns the number of the last line of the trace, also if it waits."""
+        return Written.lines + len(self.lines)
+
     def ask(self, line):
         """Sends a line, and writes it to the trace. Returns what `send` returns."""
         words = self.send(line)
@@ -351,6 +361,9 @@ class Machine:
     def end(self):
         if self.lines:
             self.settle()
+        for tenant in self.tenants:
+            for comment in tenant.remarks():
+                write(comment)
         for tenant in self.tenants:
             write(f'{tenant.number} report')
         flush()
@@ -546,6 +559,10 @@ class Tenant:
     def tell_more(self):
         """Prints more about the load, in the summary. Prints nothing unless a subclass does."""
 
+    def remarks(self):
+        """Returns comments for the end of the trace. There are none unless a subclass has some."""
+        return []
+
     def most_blocks(self):
         """Returns a list of (order, the most blocks of this order at a time): one pair for each order of page blocks, and one for
         the slabs of each cache. A cache makes a slab only when all its others are full, so it never has more slabs than the
@@ -578,7 +595,7 @@ def replay(given, names, surveys, kind, events):
     sys.stdout.reconfigure(encoding='utf-8')
     machine = Machine(given, len(names))
     for number, name in enumerate(names):
-        write(remark(number, name))
+        write(remark(f'# tenant {number} is ', name))
     whole = max(longest(surveys, given.together), 1)
     clock = Clock(whole)
     PROGRESS.is_converting = True
