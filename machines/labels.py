@@ -7,7 +7,8 @@ import drawn
 import scales
 from scales import WIDTH
 
-LEFT, RIGHT, MARGIN = 72, 36, 16        # the space left and right of framemap's columns; the space that is added on each side
+LEFT, RIGHT, MARGIN = 72, 36, 16        # the space left and right of framemap's columns; the space that is added on the left
+WIDE, SVG_WIDE = MARGIN + LEFT + WIDTH + RIGHT, 1264    # the width of the picture, and how wide an SVG is shown
 NAME_LINE = 18                          # the height of the line with a band's name
 BELOW, FREE_BELOW = 18, 40              # from the foot of a band down to the numbers of its lines, and to its end
 MARKS_BELOW, MARK_HEIGHT = 4, 9         # how far below the rows the marks of refusals are, and their height
@@ -184,11 +185,12 @@ def add(head, found, labels):
     bands, order = [Band(it, labels) for it in found], int(head['frames']).bit_length() - 1
     height = int(head['height']) + NAME_LINE * len(bands)
     titled = titled_in(bands) if labels.has_titles else set()
-    wide = LEFT + WIDTH + RIGHT + 2 * MARGIN
     style = head['style'] + '.refused{vector-effect:non-scaling-stroke}'
-    lines = [f'<svg xmlns="http://www.w3.org/2000/svg" class="picture" viewBox="{-MARGIN} 0 {wide} {height}" width="{wide}" '
-             f'height="{height}">', f'<style>{style}</style>',
-             f'<rect x="{-MARGIN}" width="{wide}" height="{height}" fill="#fff"/>', head['words'].rstrip()]
+    # Only the width is less, so rows that are a pixel high stay so.
+    size = f'preserveAspectRatio="none" width="{SVG_WIDE}" height="{height}"' if labels.has_titles else ''
+    lines = [f'<svg xmlns="http://www.w3.org/2000/svg" class="picture" {size} viewBox="{-MARGIN} 0 {WIDE} {height}">',
+             f'<style>{style}</style>',
+             f'<rect x="{-MARGIN}" width="{WIDE}" height="{height}" fill="#fff"/>', head['words'].rstrip()]
     for at, band in enumerate(bands, 1):
         lines += band.draw(titled, order, NAME_LINE * at)
     return '\n'.join(it for it in [*lines, '</svg>'] if it) + '\n'
