@@ -30,10 +30,11 @@ LAYER = re.compile(r'<path class="(?P<classes>cells d(?P<depth>\d))" transform="
 
 class Figures:
     """The figures of a tenant, in lists by column: the frames that it holds after the column, how many of these are taken, the
-    most that were taken in the column, and how often it has been refused frames up to the column."""
+    most that were taken in the column, how often it has been refused frames up to the column, and how many blocks of each order
+    are free."""
 
     def __init__(self):
-        self.held, self.taken, self.most, self.refused = [], [], [], []
+        self.held, self.taken, self.most, self.refused, self.free = [], [], [], [], []
 
     def peak(self):
         """Returns the most frames that are taken after any line. It does not depend on the number of columns."""
@@ -51,11 +52,12 @@ def read_table(table):
     """Returns the last line of each column, and the figures by tenant."""
     lines, figures = [], collections.defaultdict(Figures)
     for row in table.splitlines()[1:]:
-        line, tenant, held, taken, most, refused = map(int, row.split(',')[:6])
+        line, tenant, held, taken, most, refused, *free = map(int, row.split(','))
         figures[tenant].held.append(held)
         figures[tenant].taken.append(taken)
         figures[tenant].most.append(most)
         figures[tenant].refused.append(refused)
+        figures[tenant].free.append(free)
         if not lines or line != lines[-1]:
             lines.append(line)
     return lines, figures

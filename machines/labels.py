@@ -33,11 +33,11 @@ def text(words, y, x, kind=None):
 class Labels:
     """What the labels of a picture are made of: the figures, the names, the axis and the unit of bytes."""
 
-    def __init__(self, table, remarks, width, by_time=False, has_titles=False):
+    def __init__(self, table, remarks, width, by_time=False, is_page=False):
         self.lines, self.figures = drawn.read_table(table)
-        self.names, self.axis = remarks.names, scales.Axis(self.lines, width, remarks.clock if by_time else None)
+        self.names, self.width, self.is_page = remarks.names, width, is_page
+        self.axis = scales.Axis(self.lines, width, remarks.clock if by_time else None)
         self.unit = scales.Unit(max((max(own.held, default=0) for own in self.figures.values()), default=0))
-        self.has_titles = has_titles
 
     def name_of(self, tenant):
         return self.names.get(tenant, f'Tenant {tenant}')
@@ -56,8 +56,9 @@ class Band:
         self.y, self.top, self.height = int(found['y']), int(found['top']), int(found['height'])
         self.row_height, self.per_row = int(found['row']), int(found['per_row'] or 1)
         self.foot = int(found['below']) - BELOW
-        self.paths = [(it['kind'], it['shade'] or '', [tuple(map(int, its)) for its in drawn.RECTANGLE.findall(it['path'])])
-                      for it in drawn.PATH.finditer(found['cells'])]
+        paths = [(it['kind'], it['shade'] or '', [tuple(map(int, its)) for its in drawn.RECTANGLE.findall(it['path'])])
+                 for it in drawn.PATH.finditer(found['cells'])]
+        self.paths = [it for it in paths if it[2]]
 
     def area(self, rectangle):
         """Returns the area of a rectangle in pixels, or 0 if it is too small to point at."""
@@ -86,9 +87,13 @@ class Band:
         return f'M{x} {row}h{width}v{rows}h-{width}z' if width else ''
 
     def draw_cells(self, titled):
-        """Yields the paths of the cells. Rectangles in `titled` have their own path, with a title."""
+        """Yields the paths of the cells. Rectangles in `titled` have their own path, with a title. In a page, the script draws
+        all rectangles."""
         for kind, shade, rectangles in self.paths:
             classes = f'{kind} {shade}'.rstrip()
+            if self.labels.is_page:
+                yield f'<path class="{classes}"/>'
+                continue
             plain_ones = ''.join(self.draw_rectangle(it) for it in rectangles if (self.tenant, it) not in titled)
             yield f'<path class="{classes}" d="{plain_ones}"/>'
             for it in rectangles:
@@ -97,20 +102,25 @@ class Band:
                     yield f'<path class="{classes}" d="{self.draw_rectangle(it)}"><title>{title}</title></path>'
 
     def draw_layers(self, order):
-        """Yields a path for each order that has free blocks, with the frames in them."""
+        """Yields a path for each order that has free blocks, with the frames in them. In a page, the script draws them."""
         axis = self.labels.axis
         for it in drawn.LAYER.finditer(self.found['layers']):
+            if self.labels.is_page:
+                yield f'<path class="layer {it["classes"]}" transform="translate({LEFT} {it["foot"]}) scale(1 -{it["scale"]})"/>'
+                continue
             path = re.sub(r'H(\d+)', lambda turn: f'H{axis.place(int(turn[1]))}', it['path'])
             title = f'{self.labels.name_of(self.tenant)}: frames in free blocks of order {order - int(it["depth"])}'
-            title = f'<title>{escaped(title)}</title>' if self.labels.has_titles else ''
+            title = f'<title>{escaped(title)}</title>'
             scale = axis.scale(f'{WIDTH / max(len(self.labels.lines), 1):.8f}')
             yield (f'<path class="{it["classes"]}" transform="translate({LEFT} {it["foot"]}) scale({scale} -{it["scale"]})" '
                    f'd="{path}">{title}</path>')
 
     def draw_refused(self):
         """Returns the marks of refusals. If the axis is time, they are where their column begins; if not, they stay where
-        framemap has drawn them."""
+        framemap has drawn them. In a page, the script draws them."""
         axis = self.labels.axis
+        if self.labels.is_page:
+            return '<path class="refused"/>'
         if not axis.by_time:
             return self.found['refused'].rstrip()
         marks = ''.join(f'M{LEFT + axis.edges[column]:.2f} {self.top + self.height + MARKS_BELOW}v{MARK_HEIGHT}'
@@ -118,13 +128,13 @@ class Band:
         return f'<path class="refused" d="{marks}"/>'
 
     def draw_window(self, titled, order):
-        """Yields the part of the band that the page moves and stretches to show other lines."""
-        height = self.foot - self.top
+        """Yields the part of the band that shows the trace. A page shows a part of the trace here."""
+        height, is_page = self.foot - self.top, self.labels.is_page
         yield (f'<svg class="window" x="{LEFT}" y="{self.top}" width="{WIDTH}" height="{height}" '
-               f'viewBox="{LEFT} {self.top} {WIDTH} {height}" preserveAspectRatio="none">')
+               f'viewBox="{LEFT} {self.top} {WIDTH} {height}">')
         title = f'<title>{escaped(self.labels.name_of(self.tenant))}: free frames</title>'
-        yield self.found['ground'].replace('/>', f'>{title}</rect>') if self.labels.has_titles else self.found['ground']
-        scale = self.labels.axis.scale(self.found['scale'])
+        yield self.found['ground'] if is_page else self.found['ground'].replace('/>', f'>{title}</rect>')
+        scale = '1' if is_page else self.labels.axis.scale(self.found['scale'])
         yield f'<g class="cells" transform="translate({LEFT} {self.top + self.height}) scale({scale} -{self.row_height})">'
         yield from self.draw_cells(titled)
         yield '</g>'
@@ -141,6 +151,9 @@ class Band:
                       lambda it: f'{it[0]}<text {bytes_at}{it[1]}>{unit.of(int(it[2]))}</text>', axes).rstrip()
 
     def draw_ticks(self):
+        """Yields the numbers below the band. In a page, the script draws them."""
+        if self.labels.is_page:
+            return
         if not self.labels.axis.by_time:
             yield self.found['ticks'].rstrip()
             return
@@ -180,17 +193,19 @@ def titled_in(bands):
     return {(tenant, it) for _, tenant, it in largest}
 
 
-def add(head, found, labels):
+def add(head, bands, labels):
     """Returns the picture with this head and these bands, with its labels."""
-    bands, order = [Band(it, labels) for it in found], int(head['frames']).bit_length() - 1
-    height = int(head['height']) + NAME_LINE * len(bands)
-    titled = titled_in(bands) if labels.has_titles else set()
-    style = head['style'] + '.refused{vector-effect:non-scaling-stroke}'
-    # Only the width is less, so rows that are a pixel high stay so.
-    size = f'preserveAspectRatio="none" width="{SVG_WIDE}" height="{height}"' if labels.has_titles else ''
-    lines = [f'<svg xmlns="http://www.w3.org/2000/svg" class="picture" {size} viewBox="{-MARGIN} 0 {WIDE} {height}">',
-             f'<style>{style}</style>',
-             f'<rect x="{-MARGIN}" width="{WIDE}" height="{height}" fill="#fff"/>', head['words'].rstrip()]
+    order, height = int(head['frames']).bit_length() - 1, int(head['height']) + NAME_LINE * len(bands)
+    titled = set() if labels.is_page else titled_in(bands)
+    words = head['words'].rstrip()
+    if labels.is_page:      # the script keeps the number of lines
+        words = words.replace(f' column: {labels.width};', f' column: <tspan id="lines">{labels.width}</tspan>;')
+        shown = 'class="picture"'
+    else:                   # only the width is less, so rows that are a pixel high stay so
+        shown = f'class="picture" preserveAspectRatio="none" width="{SVG_WIDE}" height="{height}"'
+    lines = [f'<svg xmlns="http://www.w3.org/2000/svg" {shown} viewBox="{-MARGIN} 0 {WIDE} {height}">',
+             f'<style>{head["style"]}</style>',
+             f'<rect x="{-MARGIN}" width="{WIDE}" height="{height}" fill="#fff"/>', words]
     for at, band in enumerate(bands, 1):
         lines += band.draw(titled, order, NAME_LINE * at)
     return '\n'.join(it for it in [*lines, '</svg>'] if it) + '\n'

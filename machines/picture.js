@@ -1,38 +1,28 @@
-'use strict'
+// What the page shows of the trace, and what the mouse does.
 
 const MIN_DRAG = 4 // pixels of the picture: less is a click
-const PLAY_SECONDS = 12
+const MAX_COLUMNS = 1200 // that are drawn at a time
 const MAX_TICKS = 10
+const PLAY_SECONDS = 12
 const TINY = 1e-6
-// Pixels from the foot of a band up to the words above its free frames, and down to the numbers of its lines.
-const ABOVE_FOOT = 61
+// Pixels from the foot of a band up to the top of the words above its free frames, and down to the numbers of its lines.
+const ABOVE_FOOT = 73
 const BELOW_FOOT = 18
 
-const facts = JSON.parse(document.getElementById('facts').textContent)
-const { left: LEFT, width: WIDTH } = facts // where the columns begin, and how wide they are together
+const byId = (name) => document.getElementById(name)
 const picture = document.querySelector('svg.picture')
-const columns = readTable(document.getElementById('table').textContent)
 const bands = [...picture.querySelectorAll('g.band')].map(readBand)
-const order = columns.length ? columns[0].tenants.get(bands[0].tenant).free.length - 1 : 0 // of a superblock
 const head = bands[0].top + bands[0].group.transform.baseVal[0].matrix.f // where the first band begins
-const slider = document.getElementById('column')
-const playButton = document.getElementById('play')
+const times = facts.times && valuesOf(facts.times)
+const slider = byId('column')
 
 let view = { from: 0, to: WIDTH } // the part of the picture that is shown, in pixels of the whole
-let cursor = { column: 0, place: 0 } // the place is in pixels of the whole
+let level = levelOf(0) // the columns in which it is drawn
+let cursor = { column: 0, place: 0 } // the column of framemap, and the place in pixels of the whole
+let onScreen = [] // the bands that are in the window
+let scale = 1 // pixels of the window in one of the picture
 let drag = null // where a drag began, in pixels from the left of the columns; null if there is no drag
 let playing = null // when playing began, and at which place; null if it does not play
-
-/** Returns the figures of each column, by tenant, as framemap has written them. */
-function readTable(text) {
-  const columns = []
-  for (const row of text.trim().split('\n').slice(1)) {
-    const [line, tenant, held, taken, , refused, ...free] = row.split(',').map(Number)
-    if (!columns.length || columns.at(-1).line !== line) columns.push({ line, tenants: new Map() })
-    columns.at(-1).tenants.set(tenant, { held, taken, refused, free })
-  }
-  return columns
-}
 
 function create(parent, name, attributes) {
   const made = document.createElementNS('http://www.w3.org/2000/svg', name)
@@ -40,13 +30,14 @@ function create(parent, name, attributes) {
   return parent.appendChild(made)
 }
 
-/** Returns the elements and the sizes of a band. Adds what is drawn over it: the cursor, the chosen part, and the figures. */
-function readBand(group) {
+/** Returns the elements, the sizes and the figures of a band. Adds what is drawn over it. */
+function readBand(group, index) {
   const pane = group.querySelector('svg.window')
   const [y, height] = [pane.y.baseVal.value, pane.height.baseVal.value]
   const { tenant, top, bottom, row, frames } = group.dataset
+  const { tones, figures } = facts.bands[index]
   return {
-    group, pane, y, height,
+    group, y, height,
     row: Number(row), // the height of a row, in pixels
     frames: Number(frames), // how many frames a row has
     tenant: Number(tenant),
@@ -54,59 +45,62 @@ function readBand(group) {
     top: Number(top),
     bottom: Number(bottom),
     rows: pane.querySelector('.free').height.baseVal.value,
+    figures: figuresOf(figures),
+    tones: [...pane.querySelectorAll('g.cells > path')].map((path, at) => ({ path, cells: rectanglesOf(tones[at]) })),
+    layers: [...pane.querySelectorAll('path.layer')], // by order, the least first
+    marks: pane.querySelector('.refused'),
     ticks: group.querySelector('.ticks'),
     reach: create(group, 'rect', { class: 'reach', x: LEFT, y: y + height, width: WIDTH, height: 28 }),
-    chosen: create(group, 'rect', { class: 'chosen', x: LEFT, y, width: 0, height }),
-    cursor: create(group, 'line', { class: 'cursor', y1: y, y2: y + height }),
-    readout: create(group, 'text', { class: 'readout', x: LEFT + WIDTH, y: y + height - ABOVE_FOOT })
+    // The figures at the cursor. If they were a part of the picture, each move would paint the picture anew.
+    readout: byId('readouts').appendChild(document.createElement('div')),
+    isShown: true,
+    isDrawn: false, // as the view is now
+    column: null // the column of framemap whose figures it shows
   }
 }
 
-/** shownAt converts a place in the whole picture to where it is shown now. Both are in pixels from the left of the columns. */
+/** Converts a place in the whole picture to where it is shown now. Both are in pixels from the left of the columns. */
 const shownAt = (place) => (place - view.from) / (view.to - view.from) * WIDTH
-/** placeAt converts where a place is shown now back to the place. */
+/** Converts where a place is shown now back to the place. */
 const placeAt = (x) => view.from + x / WIDTH * (view.to - view.from)
+const inside = (x) => Math.min(Math.max(x, 0), WIDTH)
+/** Returns where a place is shown, or the nearer end of what is shown, in hundredths of a pixel at most. */
+const drawnAt = (place) => Math.round(inside(shownAt(place)) * 100) / 100
 
-function columnAt(place) {
-  let [low, high] = [0, columns.length - 1]
-  while (low < high) {
-    const middle = (low + high) >> 1
-    if (facts.edges[middle + 1] <= place) low = middle + 1
-    else high = middle
+/** Returns the path of what is shown of these rectangles. One unit to the right is a pixel, and one upwards is a row. */
+function rowsPath(cells) {
+  let path = ''
+  for (let at = 0; at < cells.length; at += 4) {
+    const left = drawnAt(level.edges[level.first(cells[at])])
+    const right = drawnAt(level.edges[level.first(cells[at] + cells[at + 2])])
+    if (left < right) path += `M${left} ${cells[at + 1]}H${right}v${cells[at + 3]}H${left}z`
   }
-  return low
+  return path
 }
 
-const bytesOf = (frames) => Math.round(frames * facts.frame / facts.unit.bytes * 10) / 10
-
-function figuresText({ held, taken, refused, free }) {
-  const top = free.findLastIndex((blocks) => blocks > 0)
-  const largest = top < 0 ? 'no free block' : `largest free block: order ${top}`
-  const bytes = `${bytesOf(taken)} of ${bytesOf(held)} ${facts.unit.name}`
-  return `${taken} of ${held} frames taken (${bytes}) · ${largest} · refused: ${refused}`
-}
-
-function showCursor() {
-  if (!columns.length) return
-  const { line, tenants } = columns[cursor.column]
-  const x = LEFT + shownAt(cursor.place)
-  for (const band of bands) {
-    band.cursor.setAttribute('x1', x)
-    band.cursor.setAttribute('x2', x)
-    band.cursor.classList.toggle('hidden', x < LEFT || x > LEFT + WIDTH)
-    band.readout.textContent = figuresText(tenants.get(band.tenant))
+/** Returns the outline of what is shown of a layer of free frames. Each column in which it changes begins with a step. */
+function layerPath(frames) {
+  let [path, before] = ['M0 0', 0]
+  for (let at = level.at(view.from); at <= level.at(view.to); at += 1) {
+    const now = frames[level.shows(at)]
+    if (now !== before) path += `H${drawnAt(level.edges[at])}V${now}`
+    before = now
   }
-  slider.value = cursor.column
-  const time = facts.times ? `, ${facts.times[cursor.column]} s` : ''
-  document.getElementById('here').textContent = `after line ${line}${time}`
+  return `${path}H${WIDTH}V0z`
 }
 
-function moveCursor(place) {
-  cursor = { column: columnAt(place), place }
-  showCursor()
+/** Returns a mark for each column in which requests were refused: in its middle, or if the axis is time, at its beginning. */
+function marksPath({ figures: { refused }, y, rows }) {
+  let path = ''
+  for (let at = level.at(view.from); at <= level.at(view.to); at += 1) {
+    const before = at ? refused[level.shows(at - 1)] : 0
+    const place = facts.edges ? level.edges[at] : level.middle(at)
+    if (refused[level.shows(at)] > before && place >= view.from && place <= view.to) {
+      path += `M${LEFT + drawnAt(place)} ${y + rows + facts.marks}v${facts.mark}`
+    }
+  }
+  return path
 }
-
-const middleOf = (column) => (facts.edges[column] + facts.edges[column + 1]) / 2
 
 /** Returns the least number of the form 1, 2 or 5 times a power of ten that fits at most MAX_TICKS times into a length. */
 function stepOf(length) {
@@ -129,31 +123,112 @@ function drawTicks(band) {
   }
 }
 
+/** Draws the part of a band that is shown. */
+function drawBand(band) {
+  band.isDrawn = true
+  for (const { path, cells } of band.tones) path.setAttribute('d', rowsPath(cells))
+  band.layers.forEach((path, order) => path.setAttribute('d', layerPath(band.figures.free[order])))
+  band.marks.setAttribute('d', marksPath(band))
+  drawTicks(band)
+}
+
+const bytesOf = (frames) => Math.round(frames * facts.frame / facts.unit.bytes * 10) / 10
+
+function figuresText({ held, taken, refused, free }, column) {
+  const top = free.findLastIndex((frames) => frames[column] > 0)
+  const largest = top < 0 ? 'no free block' : `largest free block: order ${top}`
+  const bytes = `${bytesOf(taken[column])} of ${bytesOf(held[column])} ${facts.unit.name}`
+  return `${taken[column]} of ${held[column]} frames taken (${bytes}) · ${largest} · refused: ${refused[column]}`
+}
+
+/** Draws what has changed in the bands that are in the window. The others are drawn when they come into it. */
+function drawOnScreen() {
+  if (!COUNT) return
+  for (const band of onScreen) {
+    if (!band.isDrawn) drawBand(band)
+    if (band.column !== cursor.column) band.readout.textContent = figuresText(band.figures, cursor.column)
+    band.column = cursor.column
+  }
+}
+
+function showCursor() {
+  if (!COUNT) return
+  const x = shownAt(cursor.place)
+  byId('cursor').style.transform = `translateX(${(LEFT - picture.viewBox.baseVal.x + x) * scale}px)`
+  byId('cursor').classList.toggle('hidden', x < -TINY || x > WIDTH + TINY)
+  drawOnScreen()
+  const time = times ? `, ${times[cursor.column]} s` : ''
+  byId('here').textContent = `after line ${lineOf(cursor.column)}${time}`
+  slider.value = cursor.column
+  slider.setAttribute('aria-valuetext', byId('here').textContent)
+}
+
+/** Moves the cursor to a place, and shows the figures of the column that is drawn there. */
+function moveCursor(place) {
+  cursor = { column: level.shows(level.at(place)), place }
+  showCursor()
+}
+
+/** Moves the cursor to a column of framemap. If it is not shown, the view moves until it is in its middle. */
+function showColumn(column) {
+  cursor = { column, place: levelOf(0).middle(column) }
+  if (cursor.place < view.from || cursor.place > view.to) {
+    const half = (view.to - view.from) / 2
+    showView(cursor.place - half, cursor.place + half)
+  } else showCursor()
+}
+
+/** Shows the part of the picture between two places: at least one column of framemap, and at most the whole. */
 function showView(from, to) {
-  const least = WIDTH / Math.max(columns.length, 1)
-  const middle = (from + to) / 2
-  const half = Math.max(to - from, Math.min(least, WIDTH)) / 2
-  view = { from: Math.max(middle - half, 0), to: Math.min(middle + half, WIDTH) }
+  const span = Math.min(Math.max(to - from, WIDTH / Math.max(COUNT, 1)), WIDTH)
+  const begin = Math.min(Math.max((from + to - span) / 2, 0), WIDTH - span)
+  view = { from: begin, to: begin + span }
+  level = levelBetween(view.from, view.to, MAX_COLUMNS)
+  byId('lines').textContent = level.size * facts.columns.lines
+  for (const band of bands) band.isDrawn = false
+  showCursor()
+}
+
+const showWhole = () => showView(0, WIDTH)
+
+/** Finds out which bands are in the window, and where the cursor is then. */
+function measure() {
+  const box = picture.getBoundingClientRect()
+  scale = box.width / picture.viewBox.baseVal.width
+  const isIn = (it) => box.top + it.at * scale < innerHeight && box.top + (it.at + it.bottom - it.top) * scale > 0
+  onScreen = bands.filter((it) => it.isShown && isIn(it))
+  for (const part of ['cursor', 'chosen']) byId(part).style.top = `${head * scale}px`
+  byId('readouts').style.fontSize = `${12 * scale}px`
+  byId('readouts').style.width = `${(LEFT - picture.viewBox.baseVal.x + WIDTH) * scale}px`
   for (const band of bands) {
-    band.pane.setAttribute('viewBox', `${LEFT + view.from} ${band.y} ${view.to - view.from} ${band.height}`)
-    if (columns.length) drawTicks(band)
+    band.readout.classList.toggle('hidden', !onScreen.includes(band))
+    band.readout.style.top = `${(band.at + band.y + band.height - ABOVE_FOOT - band.top) * scale}px`
   }
   showCursor()
 }
 
 /** Shows the bands of the tenants that are selected, one below the other. */
 function showTenants() {
-  const shown = new Set([...document.querySelectorAll('#tenants input:checked')].map((box) => Number(box.value)))
+  const boxes = [...document.querySelectorAll('#tenants input')]
+  const shown = new Set(boxes.filter((box) => box.checked).map((box) => Number(box.value)))
+  byId('shown').textContent = `${shown.size} of ${boxes.length} shown`
   let at = head
   for (const band of bands) {
-    const isShown = shown.has(band.tenant)
-    band.group.classList.toggle('hidden', !isShown)
+    band.isShown = shown.has(band.tenant)
+    band.at = at
+    band.group.classList.toggle('hidden', !band.isShown)
     band.group.setAttribute('transform', `translate(0 ${at - band.top})`)
-    if (isShown) at += band.bottom - band.top
+    if (band.isShown) at += band.bottom - band.top
   }
   const { x, width } = picture.viewBox.baseVal
   picture.setAttribute('viewBox', `${x} 0 ${width} ${at}`)
   picture.setAttribute('height', at)
+  measure()
+}
+
+function selectTenants(isShown) {
+  for (const box of document.querySelectorAll('#tenants input')) box.checked = isShown
+  showTenants()
 }
 
 /** Returns where the pointer is, in pixels of the picture or of a part of it. */
@@ -161,7 +236,8 @@ function pointOf(event, part = picture) {
   return new DOMPoint(event.clientX, event.clientY).matrixTransform(part.getScreenCTM().inverse())
 }
 
-const insideX = (x) => Math.min(Math.max(x - LEFT, 0), WIDTH)
+/** Returns how far the pointer is from the left of the columns, in pixels of the picture. */
+const pointedAt = (event) => inside(pointOf(event).x - LEFT)
 
 /** Returns what lies under the pointer: the tenant, its frames and what they are. */
 function describe(event) {
@@ -171,7 +247,7 @@ function describe(event) {
   const [kind, shade] = target.classList
   const above = band.y + band.rows - pointOf(event, band.group).y
   if (above > 0 && kind in facts.kinds) return `${band.name}: ${describeRow(band, Math.floor(above / band.row), kind, shade)}`
-  return kind === 'cells' ? `${band.name}: free blocks of order ${order - Number(shade.slice(1))}` : ''
+  return kind === 'layer' ? `${band.name}: free blocks of order ${band.layers.indexOf(target)}` : ''
 }
 
 function describeRow({ rows, row: height, frames }, row, kind, shade) {
@@ -182,38 +258,42 @@ function describeRow({ rows, row: height, frames }, row, kind, shade) {
   return `frames ${row * frames} ${last}, ${share}${what}`
 }
 
+/** Marks what a drag encloses, in pixels from the left of the columns. */
+function showChosen(from, to) {
+  const { style } = byId('chosen')
+  style.left = `${(LEFT - picture.viewBox.baseVal.x + Math.min(from, to)) * scale}px`
+  style.width = `${Math.abs(to - from) * scale}px`
+}
+
 picture.addEventListener('pointerdown', (event) => {
-  const inside = event.target.closest('svg.window, .reach')
-  if (event.button !== 0 || !inside) return
-  drag = insideX(pointOf(event).x)
+  if (event.button !== 0 || !event.target.closest('svg.window, .reach')) return
+  drag = pointedAt(event)
   picture.setPointerCapture(event.pointerId)
 })
 
 picture.addEventListener('pointermove', (event) => {
-  const x = insideX(pointOf(event).x)
-  if (drag !== null) {
-    for (const band of bands) {
-      band.chosen.setAttribute('x', LEFT + Math.min(drag, x))
-      band.chosen.setAttribute('width', Math.abs(x - drag))
-    }
-  } else if (event.target.closest('g.band')) {
+  const x = pointedAt(event)
+  if (drag !== null) showChosen(drag, x)
+  else if (event.target.closest('g.band')) {
     moveCursor(placeAt(x))
-    document.getElementById('under').textContent = describe(event)
+    byId('under').textContent = describe(event)
   }
 })
 
+function endDrag() {
+  drag = null
+  showChosen(0, 0)
+}
+
 picture.addEventListener('pointerup', (event) => {
   if (drag === null) return
-  const [from, to] = [drag, insideX(pointOf(event).x)].sort((a, b) => a - b)
-  drag = null
-  for (const band of bands) band.chosen.setAttribute('width', 0)
+  const [from, to] = [drag, pointedAt(event)].sort((a, b) => a - b)
   if (to - from >= MIN_DRAG) showView(placeAt(from), placeAt(to))
+  endDrag()
 })
 
-picture.addEventListener('dblclick', () => showView(0, WIDTH))
-document.getElementById('whole').addEventListener('click', () => showView(0, WIDTH))
-document.getElementById('tenants').addEventListener('change', showTenants)
-slider.addEventListener('input', () => moveCursor(middleOf(Number(slider.value))))
+picture.addEventListener('pointercancel', endDrag)
+picture.addEventListener('dblclick', showWhole)
 
 function step(now) {
   if (playing === null) return
@@ -225,18 +305,28 @@ function step(now) {
 
 function stop() {
   playing = null
-  playButton.textContent = 'Play'
+  byId('play').textContent = 'Play'
 }
 
-playButton.addEventListener('click', () => {
+function play() {
   if (playing !== null) return stop()
-  const isBetween = cursor.place >= view.from && cursor.column < columnAt(view.to - TINY)
+  const isBetween = cursor.place >= view.from && cursor.column < level.shows(level.at(view.to - TINY))
   playing = { since: performance.now(), from: isBetween ? cursor.place : view.from }
-  playButton.textContent = 'Pause'
+  byId('play').textContent = 'Pause'
   requestAnimationFrame(step)
-})
+}
 
-slider.max = Math.max(columns.length - 1, 0)
+byId('play').addEventListener('click', play)
+byId('whole').addEventListener('click', showWhole)
+byId('tenants').addEventListener('change', showTenants)
+byId('all').addEventListener('click', () => selectTenants(true))
+byId('none').addEventListener('click', () => selectTenants(false))
+slider.addEventListener('input', () => showColumn(Number(slider.value)))
+addEventListener('scroll', measure, { passive: true })
+addEventListener('beforeprint', () => { onScreen = bands; showCursor() })
+new ResizeObserver(measure).observe(picture)
+
+slider.max = Math.max(COUNT - 1, 0)
+cursor = { column: Math.max(COUNT - 1, 0), place: WIDTH }
+showWhole()
 showTenants()
-if (columns.length) moveCursor(WIDTH)
-showView(0, WIDTH)
