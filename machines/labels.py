@@ -198,9 +198,9 @@ def add(head, bands, labels):
     order, height = int(head['frames']).bit_length() - 1, int(head['height']) + NAME_LINE * len(bands)
     titled = set() if labels.is_page else titled_in(bands)
     words = head['words'].rstrip()
-    if labels.is_page:      # the script keeps the number of lines
+    if labels.is_page:      # the script keeps the number of lines, and the picture takes the keys
         words = words.replace(f' column: {labels.width};', f' column: <tspan id="lines">{labels.width}</tspan>;')
-        shown = 'class="picture"'
+        shown = 'class="picture" tabindex="0" role="group" aria-label="Frames over the trace" aria-describedby="help"'
     else:                   # only the width is less, so rows that are a pixel high stay so
         shown = f'class="picture" preserveAspectRatio="none" width="{SVG_WIDE}" height="{height}"'
     lines = [f'<svg xmlns="http://www.w3.org/2000/svg" {shown} viewBox="{-MARGIN} 0 {WIDE} {height}">',

@@ -1,9 +1,11 @@
-// What the page shows of the trace, and what the mouse does.
+// What the page shows of the trace, and what the mouse and the keys do.
 
 const MIN_DRAG = 4 // pixels of the picture: less is a click
 const MAX_COLUMNS = 1200 // that are drawn at a time
 const MAX_TICKS = 10
 const PLAY_SECONDS = 12
+const WHEEL_DOUBLES = 300 // pixels that the wheel turns until twice as much or half as much is shown
+const PINCH = 10 // a pinch is a wheel that turns this much less
 const TINY = 1e-6
 // Pixels from the foot of a band up to the top of the words above its free frames, and down to the numbers of its lines.
 const ABOVE_FOOT = 73
@@ -21,7 +23,7 @@ let level = levelOf(0) // the columns in which it is drawn
 let cursor = { column: 0, place: 0 } // the column of framemap, and the place in pixels of the whole
 let onScreen = [] // the bands that are in the window
 let scale = 1 // pixels of the window in one of the picture
-let drag = null // where a drag began, in pixels from the left of the columns; null if there is no drag
+let drag = null // what a drag does, and where it began; null if there is no drag
 let playing = null // when playing began, and at which place; null if it does not play
 
 function create(parent, name, attributes) {
@@ -191,6 +193,19 @@ function showView(from, to) {
 
 const showWhole = () => showView(0, WIDTH)
 
+/** Shows `factor` times as much as now. What is at `place` stays where it is. */
+function zoom(factor, place) {
+  const least = WIDTH / Math.max(COUNT, 1) / (view.to - view.from)
+  const by = Math.min(Math.max(factor, least), WIDTH / (view.to - view.from))
+  showView(place - (place - view.from) * by, place + (view.to - place) * by)
+}
+
+/** Moves what is shown by a share of its width. */
+function pan(share) {
+  const by = share * (view.to - view.from)
+  showView(view.from + by, view.to + by)
+}
+
 /** Finds out which bands are in the window, and where the cursor is then. */
 function measure() {
   const box = picture.getBoundingClientRect()
@@ -267,14 +282,19 @@ function showChosen(from, to) {
 
 picture.addEventListener('pointerdown', (event) => {
   if (event.button !== 0 || !event.target.closest('svg.window, .reach')) return
-  drag = pointedAt(event)
+  const isChoice = event.shiftKey || event.target.matches('.reach')
+  drag = { isChoice, from: pointedAt(event), view }
+  picture.classList.toggle('panned', !isChoice)
   picture.setPointerCapture(event.pointerId)
 })
 
 picture.addEventListener('pointermove', (event) => {
   const x = pointedAt(event)
-  if (drag !== null) showChosen(drag, x)
-  else if (event.target.closest('g.band')) {
+  if (drag?.isChoice) showChosen(drag.from, x)
+  else if (drag) {
+    const by = (drag.from - (pointOf(event).x - LEFT)) / WIDTH * (view.to - view.from)
+    showView(drag.view.from + by, drag.view.to + by)
+  } else if (event.target.closest('g.band')) {
     moveCursor(placeAt(x))
     byId('under').textContent = describe(event)
   }
@@ -282,18 +302,62 @@ picture.addEventListener('pointermove', (event) => {
 
 function endDrag() {
   drag = null
+  picture.classList.remove('panned')
   showChosen(0, 0)
 }
 
 picture.addEventListener('pointerup', (event) => {
-  if (drag === null) return
-  const [from, to] = [drag, pointedAt(event)].sort((a, b) => a - b)
-  if (to - from >= MIN_DRAG) showView(placeAt(from), placeAt(to))
+  if (!drag) return
+  const [from, to] = [drag.from, pointedAt(event)].sort((a, b) => a - b)
+  if (drag.isChoice && to - from >= MIN_DRAG) showView(placeAt(from), placeAt(to))
   endDrag()
 })
 
 picture.addEventListener('pointercancel', endDrag)
 picture.addEventListener('dblclick', showWhole)
+
+picture.addEventListener('wheel', (event) => {
+  if (!event.target.closest('svg.window, .reach')) return
+  const pixels = event.deltaMode ? BELOW_FOOT : 1 // other modes count lines
+  const { from, to } = view
+  if (event.shiftKey || Math.abs(event.deltaX) > Math.abs(event.deltaY)) pan((event.deltaX || event.deltaY) * pixels / WIDTH)
+  else zoom(2 ** (event.deltaY * pixels * (event.ctrlKey ? PINCH : 1) / WHEEL_DOUBLES), placeAt(pointedAt(event)))
+  // If nothing is left to do, the wheel scrolls the page.
+  if (event.ctrlKey || from !== view.from || to !== view.to) event.preventDefault()
+}, { passive: false })
+
+/** Moves the cursor by a number of the columns that are drawn. */
+function stepCursor(columns) {
+  const at = Math.min(Math.max(level.first(cursor.column) + columns, 0), level.count - 1)
+  showColumn(level.shows(at))
+}
+
+/** Returns the place of the cursor, or if it is not shown, the middle of what is shown. */
+function middleOfZoom() {
+  const isShown = cursor.place >= view.from && cursor.place <= view.to
+  return isShown ? cursor.place : (view.from + view.to) / 2
+}
+
+const keys = {
+  ArrowLeft: () => stepCursor(-1),
+  ArrowRight: () => stepCursor(1),
+  'shift ArrowLeft': () => pan(-1 / 4),
+  'shift ArrowRight': () => pan(1 / 4),
+  Home: () => moveCursor(view.from),
+  End: () => moveCursor(view.to - TINY),
+  '+': () => zoom(1 / 2, middleOfZoom()),
+  '-': () => zoom(2, middleOfZoom()),
+  0: showWhole,
+  ' ': play
+}
+
+picture.addEventListener('keydown', (event) => {
+  const isArrow = event.key.startsWith('Arrow')
+  const act = keys[event.shiftKey && isArrow ? `shift ${event.key}` : event.key === '=' ? '+' : event.key]
+  if (!act || !COUNT || event.ctrlKey || event.altKey || event.metaKey) return
+  event.preventDefault()
+  act()
+})
 
 function step(now) {
   if (playing === null) return
@@ -317,6 +381,8 @@ function play() {
 }
 
 byId('play').addEventListener('click', play)
+byId('in').addEventListener('click', keys['+'])
+byId('out').addEventListener('click', keys['-'])
 byId('whole').addEventListener('click', showWhole)
 byId('tenants').addEventListener('change', showTenants)
 byId('all').addEventListener('click', () => selectTenants(true))

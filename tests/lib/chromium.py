@@ -10,6 +10,7 @@ import time
 OPTIONS = ["--headless=new", "--no-sandbox", "--disable-gpu", "--no-first-run", "--disable-background-networking",
            "--disable-component-update", "--disable-dev-shm-usage", "--remote-debugging-pipe", "--window-size=1400,2000"]
 SECONDS = 120
+SHIFT = {"modifiers": 8}    # for `drag`, `wheel` and `press`
 
 
 def found():
@@ -84,20 +85,31 @@ class Browser:
             raise ValueError(f"{expression}: {got['exceptionDetails']}")
         return got["result"].get("value")
 
-    def mouse(self, kind, x, y, pressed=False, clicks=1):
+    def mouse(self, kind, x, y, pressed=False, clicks=1, **more):
         button = {"button": "left", "clickCount": clicks} if kind != "mouseMoved" or pressed else {}
-        self.call("Input.dispatchMouseEvent", type=kind, x=x, y=y, buttons=int(pressed), **button)
+        self.call("Input.dispatchMouseEvent", type=kind, x=x, y=y, buttons=int(pressed), **button, **more)
 
     def move(self, x, y):
         self.mouse("mouseMoved", x, y)
 
-    def drag(self, start, end):
+    def drag(self, start, end, **more):
         """Moves the mouse from one point to another with its button pressed."""
         self.move(*start)
-        self.mouse("mousePressed", *start, True)
-        self.mouse("mouseMoved", *((a + b) / 2 for a, b in zip(start, end)), True)
-        self.mouse("mouseMoved", *end, True)
-        self.mouse("mouseReleased", *end)
+        self.mouse("mousePressed", *start, True, **more)
+        self.mouse("mouseMoved", *((a + b) / 2 for a, b in zip(start, end)), True, **more)
+        self.mouse("mouseMoved", *end, True, **more)
+        self.mouse("mouseReleased", *end, **more)
+
+    def wheel(self, x, y, right=0, down=0, **more):
+        """Turns the wheel by these numbers of pixels."""
+        self.move(x, y)
+        self.call("Input.dispatchMouseEvent", type="mouseWheel", x=x, y=y, deltaX=right, deltaY=down, **more)
+
+    def press(self, key, **more):
+        """Presses a key and releases it. If a key stands for a character, it is its name."""
+        text = {"text": key} if len(key) == 1 else {}
+        self.call("Input.dispatchKeyEvent", type="keyDown", key=key, **text, **more)
+        self.call("Input.dispatchKeyEvent", type="keyUp", key=key, **more)
 
     def double_click(self, x, y):
         self.move(x, y)
