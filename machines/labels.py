@@ -170,7 +170,9 @@ class Band:
                f'data-bottom="{self.foot + FREE_BELOW}" data-row="{self.row_height}" data-frames="{self.per_row}" '
                f'transform="translate(0 {moved})">')
         yield text(f'{name}<title>tenant {self.tenant}: {full}</title>', self.y - NAME_LINE, LEFT, 'tenant')
-        yield (self.found['note'] or '').replace(f' y="{self.y}"', f' y="{self.y - NAME_LINE}"').rstrip()
+        note = (self.found['note'] or '').replace(f' y="{self.y}"', f' y="{self.y - NAME_LINE}"').rstrip()
+        # On a dark page, what is taken is lighter.
+        yield note.replace('darker where more', 'stronger where more') if labels.is_page else note
         peak, at_end = self.figures.peak(), ' of '.join(map(unit.rounded, self.figures.at_end()))
         # framemap draws the most of the last lines of all columns: less than the peak if that lies between them.
         figures = re.sub(r'at most \d+ taken', f'at most {peak} taken', self.found['figures'])
@@ -205,7 +207,7 @@ def add(head, bands, labels):
         shown = f'class="picture" preserveAspectRatio="none" width="{SVG_WIDE}" height="{height}"'
     lines = [f'<svg xmlns="http://www.w3.org/2000/svg" {shown} viewBox="{-MARGIN} 0 {WIDE} {height}">',
              f'<style>{head["style"]}</style>',
-             f'<rect x="{-MARGIN}" width="{WIDE}" height="{height}" fill="#fff"/>', words]
+             f'<rect class="paper" x="{-MARGIN}" width="{WIDE}" height="{height}" fill="#fff"/>', words]
     for at, band in enumerate(bands, 1):
         lines += band.draw(titled, order, NAME_LINE * at)
     return '\n'.join(it for it in [*lines, '</svg>'] if it) + '\n'
