@@ -1,20 +1,23 @@
 """Adds labels to a picture of framemap: names, bytes, times, and titles that appear under the pointer. Moves each band down, to
 make space for a line with its name. If the axis is time, also changes where each column begins and ends."""
+import bisect
 import html
 import re
 
 import drawn
 import scales
+import summary
 from scales import WIDTH
 
 LEFT, RIGHT, MARGIN = 72, 36, 16        # the space left and right of framemap's columns; the space that is added on the left
 WIDE, SVG_WIDE = MARGIN + LEFT + WIDTH + RIGHT, 1264    # the width of the picture, and how wide an SVG is shown
-NAME_LINE = 18                          # the height of the line with a band's name
+NAME_LINE = 18                          # the height of the line with a band's name, and of the one with its callers
 BELOW, FREE_BELOW = 18, 40              # from the foot of a band down to the numbers of its lines, and to its end
 MARKS_BELOW, MARK_HEIGHT = 4, 9         # how far below the rows the marks of refusals are, and their height
 INDENT = 12                             # the indent of a band's figures, which are right of the word above the band's axis
 BYTES_RIGHT = 22                        # where the numbers of bytes end
-MAX_NAME = 64                          # characters of a name; a longer one is cut
+MAX_NAME, MAX_CALLERS = 64, 190        # characters of a name, and of a line of callers; what is longer is cut
+MARK = 'M-5 -6h10l-5 6z'                # the mark of a peak, above the rows
 MAX_TITLES, MIN_WIDTH, MIN_HEIGHT = 1500, 3, 3     # the most rectangles with a title; their least size in pixels
 KINDS = {'page': 'page blocks', 'full': 'full slabs', 'partial': 'partial slabs', 'empty': 'empty slabs', 'free': 'free',
          'none': 'not held'}
@@ -23,6 +26,10 @@ SHARES = {'one': 'up to a quarter', 'two': 'up to half', 'three': 'up to three q
 
 def escaped(text):
     return html.escape(text, quote=False)
+
+
+def cut(words, most):
+    return words if len(words) <= most else words[:most] + '…'
 
 
 def text(words, y, x, kind=None):
@@ -38,13 +45,13 @@ class Labels:
         self.names, self.width, self.is_page = remarks.names, width, is_page
         self.axis = scales.Axis(self.lines, width, remarks.clock if by_time else None)
         self.unit = scales.Unit(max((max(own.held, default=0) for own in self.figures.values()), default=0))
+        self.peaks = {tenant: peak for tenant, peak in remarks.peaks.items() if tenant in self.figures and self.lines}
 
     def name_of(self, tenant):
         return self.names.get(tenant, f'Tenant {tenant}')
 
     def short(self, tenant):
-        name = self.name_of(tenant)
-        return name if len(name) <= MAX_NAME else name[:MAX_NAME] + '…'
+        return cut(self.name_of(tenant), MAX_NAME)
 
 
 class Band:
@@ -52,7 +59,8 @@ class Band:
 
     def __init__(self, found, labels):
         self.found, self.labels, self.tenant = found, labels, int(found['tenant'])
-        self.figures = labels.figures[self.tenant]
+        self.figures, self.peak = labels.figures[self.tenant], labels.peaks.get(self.tenant)
+        self.added = 2 * NAME_LINE if self.peak else NAME_LINE      # the height that is added above what framemap draws
         self.y, self.top, self.height = int(found['y']), int(found['top']), int(found['height'])
         self.row_height, self.per_row = int(found['row']), int(found['per_row'] or 1)
         self.foot = int(found['below']) - BELOW
@@ -162,21 +170,36 @@ class Band:
             yield f'<path class="axis" d="M{x} {self.foot}v5"/>{text(number, self.foot + BELOW, x, "middle")}'
         yield text('seconds', self.foot + BELOW, LEFT - 9, 'right')
 
+    def draw_peak(self):
+        """Yields the callers of malloc when most bytes are live, and a mark above the column of this peak."""
+        if not self.peak:
+            return
+        labels, (line, most, callers) = self.labels, self.peak
+        size = f'{scales.plain(round(most / labels.unit.bytes, 1))} {labels.unit.name}'
+        shares = ', '.join(f'{100 * size // max(most, 1)} % {name}' for size, _, name in callers)
+        rows = '\n'.join(f'{size} bytes in {blocks} {summary.plural("block", blocks)}: {name}' for size, blocks, name in callers)
+        words = escaped(cut(f'most bytes live, {size}, after line {line}: {shares}', MAX_CALLERS))
+        yield text(f'<tspan class="peak">▼</tspan> {words}<title>{escaped(rows)}</title>', self.y, LEFT + INDENT)
+        column = min(bisect.bisect_left(labels.lines, line), len(labels.lines) - 1)
+        x = LEFT + sum(labels.axis.edges[column:column + 2]) / 2
+        yield f'<path class="peak" d="{MARK}" transform="translate({x:.2f} {self.top})"><title>{words}</title></path>'
+
     def draw(self, titled, order, moved):
         """Yields the band, moved down by `moved` pixels."""
-        labels, unit = self.labels, self.labels.unit
+        labels, unit, y = self.labels, self.labels.unit, self.y + NAME_LINE - self.added
         name, full = (escaped(it) for it in (labels.short(self.tenant), labels.name_of(self.tenant)))
-        yield (f'<g class="band" data-tenant="{self.tenant}" data-top="{self.y - 2 * NAME_LINE}" '
+        yield (f'<g class="band" data-tenant="{self.tenant}" data-top="{y - 2 * NAME_LINE}" '
                f'data-bottom="{self.foot + FREE_BELOW}" data-row="{self.row_height}" data-frames="{self.per_row}" '
                f'transform="translate(0 {moved})">')
-        yield text(f'{name}<title>tenant {self.tenant}: {full}</title>', self.y - NAME_LINE, LEFT, 'tenant')
-        note = (self.found['note'] or '').replace(f' y="{self.y}"', f' y="{self.y - NAME_LINE}"').rstrip()
+        yield text(f'{name}<title>tenant {self.tenant}: {full}</title>', y - NAME_LINE, LEFT, 'tenant')
+        note = (self.found['note'] or '').replace(f' y="{self.y}"', f' y="{y - NAME_LINE}"').rstrip()
         # On a dark page, what is taken is lighter.
         yield note.replace('darker where more', 'stronger where more') if labels.is_page else note
         peak, at_end = self.figures.peak(), ' of '.join(map(unit.rounded, self.figures.at_end()))
         # framemap draws the most of the last lines of all columns: less than the peak if that lies between them.
         figures = re.sub(r'at most \d+ taken', f'at most {peak} taken', self.found['figures'])
-        yield text(f'{figures} · {unit.rounded(peak)} {unit.name} at most, {at_end} {unit.name} at the end', self.y, LEFT + INDENT)
+        yield text(f'{figures} · {unit.rounded(peak)} {unit.name} at most, {at_end} {unit.name} at the end', y, LEFT + INDENT)
+        yield from self.draw_peak()
         yield from self.draw_window(titled, order)
         yield self.draw_axes()
         yield self.found['word'].rstrip()
@@ -197,7 +220,7 @@ def titled_in(bands):
 
 def add(head, bands, labels):
     """Returns the picture with this head and these bands, with its labels."""
-    order, height = int(head['frames']).bit_length() - 1, int(head['height']) + NAME_LINE * len(bands)
+    order, height = int(head['frames']).bit_length() - 1, int(head['height']) + sum(band.added for band in bands)
     titled = set() if labels.is_page else titled_in(bands)
     words = head['words'].rstrip()
     if labels.is_page:      # the script keeps the number of lines, and the picture takes the keys
@@ -206,8 +229,10 @@ def add(head, bands, labels):
     else:                   # only the width is less, so rows that are a pixel high stay so
         shown = f'class="picture" preserveAspectRatio="none" width="{SVG_WIDE}" height="{height}"'
     lines = [f'<svg xmlns="http://www.w3.org/2000/svg" {shown} viewBox="{-MARGIN} 0 {WIDE} {height}">',
-             f'<style>{head["style"]}</style>',
+             f'<style>{head["style"]}.peak{{fill:#b0003a}}</style>',
              f'<rect class="paper" x="{-MARGIN}" width="{WIDE}" height="{height}" fill="#fff"/>', words]
-    for at, band in enumerate(bands, 1):
-        lines += band.draw(titled, order, NAME_LINE * at)
+    moved = 0
+    for band in bands:
+        moved += band.added
+        lines += band.draw(titled, order, moved)
     return '\n'.join(it for it in [*lines, '</svg>'] if it) + '\n'

@@ -49,7 +49,8 @@ def facts_of(own, bands, found):
             'unit': {'name': own.unit.name, 'bytes': own.unit.bytes}, 'frame': summary.FRAME, 'left': labels.LEFT,
             'width': labels.WIDTH, 'marks': labels.MARKS_BELOW, 'mark': labels.MARK_HEIGHT, 'kinds': labels.KINDS,
             'shares': labels.SHARES,
-            'bands': [{'tones': [steps(rectangles) for _, _, rectangles in band.paths], 'figures': figures_of(band.figures)} for band in bands]}
+            'bands': [{'tones': [steps(rectangles) for _, _, rectangles in band.paths], 'figures': figures_of(band.figures),
+                       'peak': band.peak and band.peak.line} for band in bands]}
 
 
 def boxes(own):
@@ -58,12 +59,25 @@ def boxes(own):
                      f'{html.escape(own.short(it))}</label>' for it in sorted(own.figures))
 
 
+def callers(own):
+    """Returns a table of the callers of malloc for each tenant that has them."""
+    if not own.peaks:
+        return ''
+    tables = ''
+    for tenant, peak in sorted(own.peaks.items()):
+        rows = '\n'.join(f'<tr><td>{size:,}<td>{count:,}<td>{html.escape(name)}' for size, count, name in peak.callers)
+        tables += (f'<table><caption>{html.escape(own.short(tenant))}: most bytes live, {peak.bytes:,}, '
+                   f'<button type="button" value="{peak.line}">after line {peak.line}</button></caption>\n'
+                   f'<tr><th>Bytes<th>Blocks<th>Caller of malloc\n{rows}\n</table>\n')
+    return f'<details id="callers"><summary>Callers at the peak</summary>\n<div class="list">\n{tables}</div></details>\n'
+
+
 def page(picture, own, bands, found, path):
     """Returns the page of a picture with its labels."""
     name = html.escape(remarks.printable(os.path.basename(path)))
     facts = json.dumps(facts_of(own, bands, found), separators=(',', ':'))
     filled = {'TITLE': name, 'STYLE': part('picture.css'), 'PICTURE': picture, 'FACTS': facts, 'TENANTS': boxes(own),
-              'OPEN': ' open' if len(own.figures) in OPEN else '',
+              'OPEN': ' open' if len(own.figures) in OPEN else '', 'CALLERS': callers(own),
               'SCRIPT': part('columns.js') + '\n' + part('picture.js')}
     shell = part('picture.html').split('@')
     return ''.join(filled[it] if at % 2 else it for at, it in enumerate(shell))

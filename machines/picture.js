@@ -37,9 +37,9 @@ function readBand(group, index) {
   const pane = group.querySelector('svg.window')
   const [y, height] = [pane.y.baseVal.value, pane.height.baseVal.value]
   const { tenant, top, bottom, row, frames } = group.dataset
-  const { tones, figures } = facts.bands[index]
+  const { tones, figures, peak } = facts.bands[index]
   return {
-    group, y, height,
+    group, y, height, peak,
     row: Number(row), // the height of a row, in pixels
     frames: Number(frames), // how many frames a row has
     tenant: Number(tenant),
@@ -51,6 +51,7 @@ function readBand(group, index) {
     tones: [...pane.querySelectorAll('g.cells > path')].map((path, at) => ({ path, cells: rectanglesOf(tones[at]) })),
     layers: [...pane.querySelectorAll('path.layer')], // by order, the least first
     marks: pane.querySelector('.refused'),
+    mark: group.querySelector('path.peak'),
     ticks: group.querySelector('.ticks'),
     reach: create(group, 'rect', { class: 'reach', x: LEFT, y: y + height, width: WIDTH, height: 28 }),
     // The figures at the cursor. If they were a part of the picture, each move would paint the picture anew.
@@ -132,6 +133,10 @@ function drawBand(band) {
   band.layers.forEach((path, order) => path.setAttribute('d', layerPath(band.figures.free[order])))
   band.marks.setAttribute('d', marksPath(band))
   drawTicks(band)
+  if (!band.mark) return
+  const x = shownAt(placeOf(band.peak))
+  band.mark.setAttribute('transform', `translate(${LEFT + x} ${band.y})`)
+  band.mark.classList.toggle('hidden', x !== inside(x))
 }
 
 const bytesOf = (frames) => Math.round(frames * facts.frame / facts.unit.bytes * 10) / 10
@@ -179,6 +184,9 @@ function showColumn(column) {
     showView(cursor.place - half, cursor.place + half)
   } else showCursor()
 }
+
+const columnOf = (line) => Math.min(Math.ceil(line / facts.columns.lines), COUNT) - 1
+const placeOf = (line) => levelOf(0).middle(columnOf(line))
 
 /** Shows the part of the picture between two places: at least one column of framemap, and at most the whole. */
 function showView(from, to) {
@@ -387,6 +395,9 @@ byId('whole').addEventListener('click', showWhole)
 byId('tenants').addEventListener('change', showTenants)
 byId('all').addEventListener('click', () => selectTenants(true))
 byId('none').addEventListener('click', () => selectTenants(false))
+byId('callers')?.addEventListener('click', ({ target }) => {
+  if (target.matches('button')) showColumn(columnOf(Number(target.value)))
+})
 slider.addEventListener('input', () => showColumn(Number(slider.value)))
 addEventListener('scroll', measure, { passive: true })
 addEventListener('beforeprint', () => { onScreen = bands; showCursor() })

@@ -1,6 +1,7 @@
 """Reads the comments of a trace for programs that draw it: the sizes of the machine, the names of tenants, and the time."""
 import bisect
 import re
+import typing
 
 import tenants
 
@@ -8,6 +9,8 @@ SIZES = re.compile(r'# partmem --order (\d{1,2}) --superblocks (\d{1,3}) --tenan
 NAME = re.compile(r'# tenant (\d{1,2}) is (.+)')
 TIME = re.compile(r'# time (\d{1,12}(?:\.\d{1,9})?)')
 INTERVAL = re.compile(r'# times every (\d{1,12}(?:\.\d{1,9})?) seconds')
+PEAK = re.compile(r'# tenant (\d{1,2}) has most bytes live after line (\d{1,10}): (\d{1,20})')
+CALLER = re.compile(r'# tenant (\d{1,2}) then has (\d{1,20}) bytes in (\d{1,10}) blocks? of (.+)')
 
 
 class Clock:
@@ -40,11 +43,19 @@ class Clock:
         return self.times[at] + passed * (line - begin) / max(end - begin, 1)
 
 
+class Peak(typing.NamedTuple):
+    """When a tenant has most bytes live: the line after which it has them, how many they are, and the bytes, the blocks and the
+    name of each caller of malloc."""
+    line: int
+    bytes: int
+    callers: list
+
+
 class Remarks:
-    """What the comments of a trace say: the sizes of the machine, the name of each tenant, and the times."""
+    """What the comments of a trace say: the sizes of the machine, the name and the peak of each tenant, and the times."""
 
     def __init__(self, path):
-        self.sizes, self.names, self.clock = None, {}, Clock()
+        self.sizes, self.names, self.peaks, self.clock = None, {}, {}, Clock()
         for at, line in enumerate(lines_of(path), 1):
             if line.startswith(b'# ') and len(line.rstrip(b'\r\n')) <= tenants.MAX_BYTES:
                 self.read(path, at, line.decode(errors='replace').rstrip('\r\n'))
@@ -54,6 +65,10 @@ class Remarks:
             self.sizes = tuple(map(int, found.groups()))
         elif found := NAME.fullmatch(line):
             self.names.setdefault(int(found[1]), printable(found[2]))
+        elif found := PEAK.fullmatch(line):
+            self.peaks[int(found[1])] = Peak(int(found[2]), int(found[3]), [])
+        elif (found := CALLER.fullmatch(line)) and int(found[1]) in self.peaks:
+            self.peaks[int(found[1])].callers.append((int(found[2]), int(found[3]), printable(found[4])))
         elif found := INTERVAL.fullmatch(line):
             self.clock.interval = float(found[1])
         elif (found := TIME.fullmatch(line)) and not self.clock.add(at, float(found[1])):
