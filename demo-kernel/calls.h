@@ -1,4 +1,4 @@
-/* System calls: int 0x80, with the number in rax and arguments in rdi, rsi and rdx. The result is in rax. */
+/* The numbers of system calls. user.h has the instruction and its registers. */
 #ifndef CALLS_H
 #define CALLS_H
 

@@ -1,4 +1,4 @@
-/* A small partitioning kernel for x86-64 whose memory is partmem's.
+/* A small partitioning kernel for x86-64 whose memory is partmem's. What depends on the processor is in x86-64/.
  *
  * Each partition is a tenant. Its page blocks are mapped in user mode, by its own page tables. Its threads and endpoints are
  * objects of two caches of the tenant; they belong to the kernel and are never mapped.
@@ -12,7 +12,7 @@
  *      5 Endings         move_slot, lent_object: after a move the blocks are mapped again; no address of an object is kept
  *      6 Flows           say, fault: a partition learns its own results and places, and no address
  *      7 Users           lent_object, drop_object: users name endpoints in system calls, and never a thread's object
- *      8 Threads         set_up_gates: interrupts are off in the kernel, so one call runs at a time
+ *      8 Threads         set_up_machine: interrupts are off in the kernel, so one call runs at a time
  *      9 Ring 0          guard_stack, enter_kernel: the stack, the flags. libpartmem_kernel.a requires no more
  *     10 After the end   end_memory: clears the RAM and the tables
  *     11 Mapping         map_block: maps what partmem_alloc or partmem_lend_block returned, and nothing else
@@ -27,6 +27,7 @@
 #include <stddef.h>
 #include <stdint.h>
 
+#include "machine.h"
 #include "partmem.h"
 #include "sizes.h"
 
@@ -37,42 +38,52 @@ enum {
     THREADS = 4,          /* the most threads of a partition */
 };
 
-/* The RAM of partitions. */
-#define RAM ((uint8_t *)0x1000000)
-#define RAM_BYTES PARTMEM_RAM_BYTES(ORDER, SUPERBLOCKS)
-
-/* What a trap leaves on the kernel's stack (boot.S). */
-struct registers {
-    uint64_t gs, fs, es, ds, r15, r14, r13, r12, r11, r10, r9, r8, rbp, rdi, rsi, rdx, rcx, rbx, rax;
-    uint64_t vector, error, rip, cs, rflags, rsp, ss;
-};
+#define RAM_BYTES PARTMEM_RAM_BYTES(ORDER, SUPERBLOCKS) /* of the RAM of partitions, which begins at RAM */
 
 /* Mistakes that `fault=NAME` on the boot line plants in the kernel, to show that the checks of demo-kernel/run see them. */
 enum planted { NO_FAULT, NO_WRITE_OUT, NO_FLUSH, NO_REMAP, NO_VECTORS, NO_SELECTORS, NO_FLAGS, SLAB_MAPPED, FREED_FIRST,
                OTHER_ADDRESS };
 
-/* machine.c: the processor and the timer */
+/* x86-64/machine.c: what the loader gives, the timer, page tables, and the way out */
+const char *boot_line(const void *loaded); /* NULL if the loader gives none */
+uint64_t end_of_ram(const void *loaded);   /* 0 if the loader does not say */
 void set_up_machine(unsigned ticks_per_second);
 void end_of_tick(void);
-uint64_t fault_address(void);
-_Noreturn void stop(int status);
-_Noreturn void panic(const char *why);
+void use_tables(const uint64_t *root);
+void flush_page(uint64_t address);
+void write_out(const char *text, size_t bytes);
+_Noreturn void stop(int status); /* ends QEMU with the exit status 2 * status + 1 */
 
-static inline void out(uint16_t port, uint8_t value) { __asm__ volatile("outb %0, %1" : : "a"(value), "Nd"(port)); }
+/* The same file: why a trap came, and the registers of threads */
+enum trap { SYSTEM_CALL, FAULT, TICK, TRAP_IN_KERNEL };
+struct call {
+    uint64_t number, first, second, third;
+};
+struct fault {
+    uint64_t number;          /* of the processor */
+    uint64_t at;              /* the address of the instruction */
+    bool is_access, is_write; /* whether it is an access to memory; whether this is a write */
+    uint64_t address;         /* of the access */
+};
+enum trap trap_of(const struct registers *registers);
+struct call call_of(const struct registers *registers);
+struct fault fault_of(const struct registers *registers);
+void set_result(struct registers *registers, uint64_t result);
+void continue_at(struct registers *registers, uint64_t address);
+void begin_thread(struct registers *registers, struct vectors *vectors, uint64_t address, uint64_t stack, uint64_t argument);
+void save_vectors(struct vectors *to);
+void load_vectors(const struct vectors *from);
+void leave_planted(struct registers *registers, const struct registers *before); /* plants mistakes in a switch of partitions */
+_Noreturn void resume(struct registers *registers);                             /* boot.S */
 
-/* Returns the time stamp. With `-icount shift=0` QEMU adds one to it for each instruction. */
-static inline uint64_t stamp(void)
-{
-    uint32_t low, high;
-    __asm__ volatile("rdtsc" : "=a"(low), "=d"(high));
-    return (uint64_t)high << 32 | low;
-}
-
-/* text.c: what the kernel prints, and memory functions for the compiler and the library */
+/* text.c: what the kernel prints */
 extern uint64_t printing; /* by how much the time stamp grew in print and print_bytes since this was set to 0 */
 __attribute__((format(printf, 1, 2))) void print(const char *format, ...); /* %s, %u and %lu */
 void print_bytes(const void *from, size_t bytes);
 void flush(void);
+_Noreturn void panic(const char *why);
+
+/* Memory functions for the compiler and the library: memmove in text.c, and the others in machine.c */
 void *memset(void *to, int byte, size_t bytes);
 void *memcpy(void *restrict to, const void *restrict from, size_t bytes);
 void *memmove(void *to, const void *from, size_t bytes);

@@ -19,7 +19,7 @@ enum { THREAD_CACHE, ENDPOINT_CACHE, MAX_COUNTS = 1024 };
  * and not in the thread's object. */
 struct context {
     struct registers registers;
-    uint8_t vectors[512] __attribute__((aligned(16))); /* the x87 and SSE state */
+    struct vectors vectors;
     bool is_there;
     uint32_t place; /* of the thread's object */
 };
@@ -42,7 +42,6 @@ static struct {
 static unsigned count;
 
 extern const uint64_t user_entries[];
-_Noreturn void resume(struct registers *registers);
 
 bool is_running(unsigned t) { return partitions[t].is_running; }
 uint32_t meeting_of(unsigned t) { return partitions[t].meeting; }
@@ -72,14 +71,15 @@ static struct context *vectors_of; /* the processor has the vector registers of 
 static void switch_vectors(struct context *next)
 {
     if (vectors_of == next || planted == NO_VECTORS) return;
-    if (vectors_of) __asm__ volatile("fxsave64 %0" : "=m"(vectors_of->vectors));
-    __asm__ volatile("fxrstor64 %0" : : "m"(next->vectors));
+    if (vectors_of) save_vectors(&vectors_of->vectors);
+    load_vectors(&next->vectors);
     vectors_of = next;
 }
 
 /* ---- Threads ------------------------------------------------------------------------------------------------------------ */
 
-/* Returns whether user mode can continue at an address: iretq to one that is not canonical would fault in the kernel. */
+/* Returns whether user mode can continue at an address. On x86-64, iretq to one that is not canonical would fault in the
+ * kernel. */
 static bool is_of_user(uint64_t address) { return address < 1ul << 47; }
 
 static uint64_t start_thread(unsigned t, uint64_t address, uint64_t stack, uint64_t argument)
@@ -90,10 +90,7 @@ static uint64_t start_thread(unsigned t, uint64_t address, uint64_t stack, uint6
     if (number == THREADS || !is_of_user(address) || !is_of_user(stack)) return REFUSED;
     struct context *context = &contexts[t][number];
     if (vectors_of == context) vectors_of = NULL; /* the thread that was there has ended */
-    *context = (struct context){.registers = {.gs = 0x1b, .fs = 0x1b, .es = 0x1b, .ds = 0x1b, .rdi = argument, .rip = address,
-                                              .cs = 0x23, .rflags = 0x202, .rsp = stack - 8, .ss = 0x1b}};
-    context->vectors[0] = 0x7f, context->vectors[1] = 0x03;   /* the x87 control word */
-    context->vectors[24] = 0x80, context->vectors[25] = 0x1f; /* MXCSR */
+    begin_thread(&context->registers, &context->vectors, address, stack, argument);
     if (take_object(t, THREAD_CACHE, &context->place) != PARTMEM_DONE) return REFUSED;
     store_in_object(t, THREAD_CACHE, context->place, 0, &empty, sizeof empty);
     context->is_there = true;
@@ -167,7 +164,7 @@ static uint64_t send(unsigned t, uint32_t place, uint64_t word)
     if (!endpoint || endpoint->count == sizeof endpoint->words / sizeof *endpoint->words) return REFUSED;
     struct context *receiver = waiting_for(t, place);
     if (receiver) {
-        receiver->registers.rax = word;
+        set_result(&receiver->registers, word);
         put_in_thread(t, receiver, offsetof(struct thread, waits_for), 0);
         return 0;
     }
@@ -255,11 +252,11 @@ static void system_call(struct context *context, uint64_t begin)
 {
     static const char *const names[CALLS + 1] = {"say", "alloc", "free", "make", "send", "receive", "drop", "start", "catch",
                                                  "reap", "report", "meet", "exit", "unknown"};
-    const struct registers *registers = &context->registers;
     printing = 0;
-    uint64_t call = registers->rax < CALLS ? registers->rax : CALLS, first = registers->rdi;
-    uint64_t result = answer(current, call, first, registers->rsi, registers->rdx);
-    context->registers.rax = result;
+    struct call its = call_of(&context->registers);
+    uint64_t call = its.number < CALLS ? its.number : CALLS;
+    uint64_t result = answer(current, call, its.first, its.second, its.third);
+    set_result(&context->registers, result);
     if (call == CALL_RECEIVE && turn_of(current) != context) print("# %u: receive waits\n", current);
     else if (result == REFUSED) print("# %u: %s refused\n", current, names[call]);
     else if (call != CALL_SAY) print("# %u: %s returns %lu\n", current, names[call], result);
@@ -274,13 +271,13 @@ static void system_call(struct context *context, uint64_t begin)
  * The thread continues at its handler, or ends if it has none. */
 static void fault(unsigned t, struct context *context)
 {
-    const struct registers *registers = &context->registers;
-    uint64_t at = fault_address(), handler = thread_of(t, context)->handler;
-    const char *what = registers->error & 2 ? "write" : "read";
-    if (registers->vector != 14) print("# %u: fault %lu\n", t, registers->vector);
-    else if (at - USER_PLACES < 1ul << 32) print("# %u: fault 14 %s place %lu\n", t, what, at - USER_PLACES);
-    else print("# %u: fault 14 %s address %lu\n", t, what, at);
-    if (handler) context->registers.rip = handler;
+    struct fault it = fault_of(&context->registers);
+    uint64_t place = it.address - USER_PLACES, handler = thread_of(t, context)->handler;
+    const char *what = it.is_write ? "write" : "read";
+    if (!it.is_access) print("# %u: fault %lu\n", t, it.number);
+    else if (place < 1ul << 32) print("# %u: fault %lu %s place %lu\n", t, it.number, what, place);
+    else print("# %u: fault %lu %s address %lu\n", t, it.number, what, it.address);
+    if (handler) continue_at(&context->registers, handler);
     else end_thread(t);
 }
 
@@ -305,31 +302,32 @@ static void switch_to_current(struct registers *registers)
     struct context *context = turn_of(current);
     enter_space(current);
     *registers = context->registers;
-    if (planted == NO_FLAGS) registers->rflags ^= (registers->rflags ^ before.rflags) & 0x244000;
-    if (planted == NO_SELECTORS) registers->gs = before.gs, registers->fs = before.fs, registers->es = before.es;
+    leave_planted(registers, &before);
     switch_vectors(context);
 }
 
 void trap(struct registers *registers);
 void trap(struct registers *registers)
 {
-    uint64_t begin = stamp(), vector = registers->vector;
-    if (!(registers->cs & 3) || vector == 2 || vector == 8 || vector == 18) {
-        print("# kernel: trap %lu at %lu, of address %lu", vector, registers->rip, fault_address());
+    uint64_t begin = stamp();
+    enum trap what = trap_of(registers);
+    if (what == TRAP_IN_KERNEL) {
+        struct fault it = fault_of(registers);
+        print("# kernel: trap %lu at %lu, of address %lu", it.number, it.at, it.address);
         panic("a trap in the kernel");
     }
     struct context *context = turn_of(current);
     context->registers = *registers;
-    if (vector == 0x80) {
+    if (what == SYSTEM_CALL) {
         system_call(context, begin);
-    } else if (vector < 32) {
+    } else if (what == FAULT) {
         fault(current, context);
     } else {
         ticks++;
         end_of_tick();
     }
     administer();
-    choose_partition(vector == 32 && ticks % ticks_a_turn == 0);
+    choose_partition(what == TICK && ticks % ticks_a_turn == 0);
     flush();
     switch_to_current(registers);
 }
@@ -342,11 +340,12 @@ void print_counts(void)
     }
 }
 
-void kernel_main(const uint32_t *loaded);
-void kernel_main(const uint32_t *loaded)
+void kernel_main(const void *loaded);
+void kernel_main(const void *loaded)
 {
-    read_words(loaded[0] & 4 ? (const char *)(uint64_t)loaded[4] : "");
-    if (!(loaded[0] & 1) || (loaded[2] + 1024ull) << 10 < (uint64_t)RAM + RAM_BYTES) panic("too little memory");
+    const char *line = boot_line(loaded);
+    read_words(line ? line : "");
+    if (end_of_ram(loaded) < (uint64_t)RAM + RAM_BYTES) panic("too little memory");
     set_up_machine(ticks_per_second);
     set_up_pages();
     set_up_memory();

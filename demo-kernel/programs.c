@@ -8,40 +8,26 @@
 #define CODE 0x10000000000ull
 enum { WORDS = FRAME / 8, SLOT = 1 << ORDER }; /* the words of a frame, the frames of a slot */
 
-/* Makes a system call, with the direction flag set, which the kernel has to clear. */
-static inline uint64_t call(uint64_t number, uint64_t first, uint64_t second, uint64_t third)
-{
-    uint64_t result;
-    __asm__ volatile("std\n int $0x80\n cld" : "=a"(result) : "a"(number), "D"(first), "S"(second), "d"(third) : "memory");
-    return result;
-}
+/* These functions of user.h load a byte, store a byte, run code, read the time, and read a device. If one of them faults, the
+ * thread continues at `in_vain`, which returns REFUSED. */
+uint64_t load_byte(uint64_t address);
+uint64_t store_byte(uint64_t address);
+uint64_t run_at(uint64_t address);
+uint64_t read_time(uint64_t unused);
+uint64_t read_device(uint64_t unused);
+extern const char in_vain[];
+
+/* Jumps to serve, and passes the OR of all registers except the stack pointer and the one with the argument. */
+extern const char new_thread[];
+
+static uint64_t word_for(uint64_t seed, uint64_t i) { return seed * 0x9e3779b97f4a7c15u + i; }
+
+#include "user.h"
 
 static void say(const char *text, uint64_t number) { call(CALL_SAY, (uint64_t)text, number, 0); }
 static uint64_t alloc(uint64_t order) { return call(CALL_ALLOC, order, 0, 0); }
 static void free_frame(uint64_t frame) { call(CALL_FREE, frame, 0, 0); }
 static volatile uint64_t *words_of(uint64_t frame) { return (volatile uint64_t *)(PLACES + frame * FRAME); }
-
-/* These functions load a byte, store a byte, run code, read the time stamp, and read a port. If one of them faults, the thread
- * continues at `in_vain`, which returns REFUSED. */
-uint64_t load_byte(uint64_t address);
-uint64_t store_byte(uint64_t address);
-uint64_t run_at(uint64_t address);
-uint64_t read_time(uint64_t unused);
-uint64_t read_port(uint64_t unused);
-extern const char in_vain[], new_thread[]; /* new_thread jumps to serve, and passes the OR of all registers but rdi and rsp */
-__asm__(".text\n"
-        ".globl load_byte, store_byte, run_at, read_time, read_port, in_vain, new_thread\n"
-        "load_byte: movzbl (%rdi), %eax\n ret\n"
-        "store_byte: movb $1, (%rdi)\n movl $1, %eax\n ret\n"
-        "run_at: movl $1, %eax\n jmp *%rdi\n"
-        "read_time: rdtsc\n ret\n"
-        "read_port: inb $0x61, %al\n ret\n"
-        "in_vain: mov $-1, %rax\n ret\n"
-        "new_thread: orq %rax, %rsi\n orq %rbx, %rsi\n orq %rcx, %rsi\n orq %rdx, %rsi\n orq %rbp, %rsi\n orq %r8, %rsi\n"
-        " orq %r9, %rsi\n orq %r10, %rsi\n orq %r11, %rsi\n orq %r12, %rsi\n orq %r13, %rsi\n orq %r14, %rsi\n orq %r15, %rsi\n"
-        " jmp serve\n");
-
-static uint64_t word_for(uint64_t seed, uint64_t i) { return seed * 0x9e3779b97f4a7c15u + i; }
 
 static void fill(uint64_t frame, uint64_t frames, uint64_t seed)
 {
@@ -62,81 +48,6 @@ static uint64_t words_not_zero(uint64_t frame, uint64_t frames)
     return found;
 }
 
-/* ---- Registers that another partition could change ----------------------------------------------------------------------- */
-
-/* The x87 and SSE state, as fxsave stores it. Word 3 has MXCSR, words 4, 6 .. 18 have the low bits of the x87 registers, and
- * words 20 to 51 are the vector registers. */
-struct vectors {
-    uint64_t words[64];
-} __attribute__((aligned(16)));
-
-static int after_word(int i) { return i < 20 ? i + 2 : i + 1; }
-
-static void load_vectors(uint64_t seed)
-{
-    struct vectors state;
-    __asm__ volatile("fxsave64 %0" : "=m"(state));
-    for (int i = 4; i < 52; i = after_word(i)) state.words[i] = word_for(seed, (uint64_t)i);
-    state.words[3] = (state.words[3] & ~0x6000ull) | (seed & 3) << 13;
-    __asm__ volatile("fxrstor64 %0" : : "m"(state));
-}
-
-static uint64_t vectors_not_zero(void)
-{
-    struct vectors state;
-    uint64_t found = 0;
-    __asm__ volatile("fxsave64 %0" : "=m"(state));
-    for (int i = 4; i < 52; i = after_word(i)) found += state.words[i] != 0;
-    return found;
-}
-
-static uint64_t wrong_vectors(uint64_t seed)
-{
-    struct vectors state;
-    uint64_t wrong = 0;
-    __asm__ volatile("fxsave64 %0" : "=m"(state));
-    for (int i = 4; i < 52; i = after_word(i)) wrong += state.words[i] != word_for(seed, (uint64_t)i);
-    return wrong + ((state.words[3] >> 13 & 3) != (seed & 3));
-}
-
-/* Returns the selector that a segment register gets: one of the two that user mode may load, chosen by a bit of the seed. */
-static uint32_t selector(uint64_t seed, int bit) { return seed >> bit & 1 ? 0x23 : 0x1b; }
-
-static void load_selectors(uint64_t seed)
-{
-    __asm__ volatile("movl %0, %%ds\n movl %1, %%es\n movl %2, %%fs\n movl %3, %%gs" : : "r"(selector(seed, 0)),
-                     "r"(selector(seed, 1)), "r"(selector(seed, 2)), "r"(selector(seed, 3)));
-}
-
-static uint64_t wrong_selectors(uint64_t seed)
-{
-    uint32_t ds, es, fs, gs;
-    __asm__ volatile("movl %%ds, %0\n movl %%es, %1\n movl %%fs, %2\n movl %%gs, %3" : "=r"(ds), "=r"(es), "=r"(fs), "=r"(gs));
-    return (ds != selector(seed, 0)) + (es != selector(seed, 1)) + (fs != selector(seed, 2)) + (gs != selector(seed, 3));
-}
-
-/* The flags that no instruction of these programs changes except popfq: nested task, alignment check and identification. */
-enum { FLAGS = 1 << 14 | 1 << 18 | 1 << 21 };
-
-static void load_flags(uint64_t flags)
-{
-    __asm__ volatile("pushfq\n andq %1, (%%rsp)\n orq %0, (%%rsp)\n popfq" : : "r"(flags & FLAGS), "r"(~(uint64_t)FLAGS) : "cc");
-}
-
-static uint64_t wrong_flags(uint64_t flags)
-{
-    uint64_t found;
-    __asm__ volatile("pushfq\n popq %0" : "=r"(found));
-    return (found & FLAGS) != (flags & FLAGS);
-}
-
-static void load_registers(uint64_t seed) { load_vectors(seed), load_selectors(seed), load_flags(seed << 14 ^ seed << 18); }
-
-static uint64_t wrong_registers(uint64_t seed)
-{
-    return wrong_vectors(seed) + wrong_selectors(seed) + wrong_flags(seed << 14 ^ seed << 18);
-}
-
 /* ---- Partition 0: always the same calls ----------------------------------------------------------------------------------- */
 
 static void use_pages(uint64_t kept)
@@ -147,7 +58,9 @@ static void use_pages(uint64_t kept)
     fill(kept, 2, 2);
     say("wrong words in pages:", wrong_words(page, 1, 1) + wrong_words(kept, 2, 2));
     say("byte 1 of a page:", load_byte(PLACES + page * FRAME + 1));
-    say("an instruction in a page:", run_at(PLACES + page * FRAME + 8 * (0xc3 - 0x15))); /* the word there begins with c3: ret */
+    words_of(page)[WORDS - 1] = RETURN;
+    say("an instruction in a page:", run_at(PLACES + page * FRAME + 8 * (WORDS - 1)));
+    words_of(page)[WORDS - 1] = word_for(1, WORDS - 1);
     free_frame(page);
     say("byte 1 after the free:", load_byte(PLACES + page * FRAME + 1));
     say("a store there:", store_byte(PLACES + page * FRAME + 1));
@@ -164,13 +77,13 @@ static void touch_what_is_not_its_own(uint64_t slab)
 {
     say("byte of a slab:", load_byte(PLACES + slab));
     say("byte of a slot that it does not hold:", load_byte(PLACES + 5ul * SUPERBLOCK));
-    say("byte of the kernel:", load_byte(0x100000));
-    say("a store in the kernel:", store_byte(0x100000));
-    say("byte of the first superblock's address:", load_byte(0x1000000));
+    say("byte of the kernel:", load_byte(KERNEL));
+    say("a store in the kernel:", store_byte(KERNEL));
+    say("byte of the first superblock's address:", load_byte(RAM));
     say("a store in its program:", store_byte(CODE));
     say("the time:", read_time(0));
-    say("byte of a port:", read_port(0));
-    say("a text of the kernel:", call(CALL_SAY, 0x100000, 0, 0));
+    say("byte of a device:", read_device(0));
+    say("a text of the kernel:", call(CALL_SAY, KERNEL, 0, 0));
     say("a thread at an address that is none:", call(CALL_START, 1ull << 47, 0, 0));
     call(CALLS, 0, 0, 0);
 }
@@ -357,14 +270,15 @@ void noisy(uint64_t seed)
     say("vector registers not zero at its start:", vectors_not_zero());
     call(CALL_CATCH, (uint64_t)in_vain, 0, 0);
     say("frames reached at its start:", frames_reached());
-    struct load load = {.state = seed | 1u << 30};
+    struct load load;
+    load.state = seed | 1u << 30, load.held = load.lost = load.made = 0;
     for (uint64_t call_number = 1;; call_number++) {
         call_any(&load);
         if (call_number % 100) continue;
         say("wrong words:", load.lost);
         fill_all();
         call(CALL_MEET, call_number, 0, 0);
-        store_byte(0x100000);
+        store_byte(KERNEL);
         free_all();
         load.held = 0;
     }

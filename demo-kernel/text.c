@@ -1,9 +1,9 @@
-/* What the kernel prints, and the memory functions that the compiler and the library call. */
+/* What the kernel prints, and memmove. */
 #include <stdarg.h>
 
 #include "kernel.h"
 
-/* Printed text waits here until flush sends it to QEMU by port 0xe9. So printing the same text always takes the same number of
+/* Printed text waits here until flush sends it to QEMU. So printing the same text always takes the same number of
  * instructions. */
 static char waiting[1 << 16];
 static size_t length;
@@ -60,27 +60,14 @@ void print_bytes(const void *from, size_t bytes)
 
 void flush(void)
 {
-    const char *from = waiting;
-    __asm__ volatile("rep outsb" : "+S"(from), "+c"(length) : "d"((uint16_t)0xe9) : "memory");
+    write_out(waiting, length);
+    length = 0;
 }
 
-void *memset(void *to, int byte, size_t bytes)
+_Noreturn void panic(const char *why)
 {
-    void *at = to;
-    size_t words = bytes / 8, rest = bytes % 8;
-    uint64_t word = 0x0101010101010101u * (uint8_t)byte;
-    __asm__ volatile("rep stosq" : "+D"(at), "+c"(words) : "a"(word) : "memory");
-    __asm__ volatile("rep stosb" : "+D"(at), "+c"(rest) : "a"(word) : "memory");
-    return to;
-}
-
-void *memcpy(void *restrict to, const void *restrict from, size_t bytes)
-{
-    void *at = to;
-    size_t words = bytes / 8, rest = bytes % 8;
-    __asm__ volatile("rep movsq" : "+D"(at), "+S"(from), "+c"(words) : : "memory");
-    __asm__ volatile("rep movsb" : "+D"(at), "+S"(from), "+c"(rest) : : "memory");
-    return to;
+    print("\n# kernel: panic: %s\n", why);
+    stop(1);
 }
 
 void *memmove(void *to, const void *from, size_t bytes)
