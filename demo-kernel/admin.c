@@ -46,7 +46,7 @@ static unsigned number_after(const char *line, const char *word, unsigned otherw
 void read_words(const char *line)
 {
     static const char *const faults[] = {"none", "write-out", "flush", "remap", "vectors", "selectors", "flags", "slab", "freed",
-                                         "address"};
+                                         "address", "thread-pointer"};
     const char *fault = after(line, "fault=");
     is_noisy = number_after(line, "noisy=", 0);
     state = number_after(line, "seed=", 1);

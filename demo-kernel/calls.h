@@ -1,4 +1,4 @@
-/* The numbers of system calls. user.h has the instruction and its registers. */
+/* The numbers of system calls. user.h has the instruction and its registers, of each processor. */
 #ifndef CALLS_H
 #define CALLS_H
 

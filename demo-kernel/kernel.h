@@ -1,4 +1,5 @@
-/* A small partitioning kernel for x86-64 whose memory is partmem's. What depends on the processor is in x86-64/.
+/* A small partitioning kernel for x86-64 and AArch64 whose memory is partmem's. What depends on the processor is in x86-64/ and
+ * arm64/, in files with the same names.
  *
  * Each partition is a tenant. Its page blocks are mapped in user mode, by its own page tables. Its threads and endpoints are
  * objects of two caches of the tenant; they belong to the kernel and are never mapped.
@@ -42,9 +43,9 @@ enum {
 
 /* Mistakes that `fault=NAME` on the boot line plants in the kernel, to show that the checks of demo-kernel/run see them. */
 enum planted { NO_FAULT, NO_WRITE_OUT, NO_FLUSH, NO_REMAP, NO_VECTORS, NO_SELECTORS, NO_FLAGS, SLAB_MAPPED, FREED_FIRST,
-               OTHER_ADDRESS };
+               OTHER_ADDRESS, NO_THREAD_POINTER };
 
-/* x86-64/machine.c: what the loader gives, the timer, page tables, and the way out */
+/* x86-64/machine.c, arm64/machine.c: what the loader gives, the timer, page tables, and the way out */
 const char *boot_line(const void *loaded); /* NULL if the loader gives none */
 uint64_t end_of_ram(const void *loaded);   /* 0 if the loader does not say */
 void set_up_machine(unsigned ticks_per_second);
@@ -54,7 +55,7 @@ void flush_page(uint64_t address);
 void write_out(const char *text, size_t bytes);
 _Noreturn void stop(int status); /* ends QEMU with the exit status 2 * status + 1 */
 
-/* The same file: why a trap came, and the registers of threads */
+/* The same files: why a trap came, and the registers of threads */
 enum trap { SYSTEM_CALL, FAULT, TICK, TRAP_IN_KERNEL };
 struct call {
     uint64_t number, first, second, third;

@@ -24,7 +24,7 @@ def program(user, name):
     return found(user, [f'crates/{name}/out/{name}', f'bin/{name}'], f'out/{name}-unproved')
 
 
-def library(user):
-    """Finds the library for the script `user`: libpartmem_kernel.a for `kernel`, and libpartmem_linux.a for `linux`."""
-    names = [f'{folder}/libpartmem_{user}.a' for folder in ('out/lib', 'lib')]
-    return found(user, names, f'out/libpartmem_{user}-unproved.a')
+def library(user, name):
+    """Finds the archive libpartmem_NAME.a for the script `user`."""
+    names = [f'{folder}/libpartmem_{name}.a' for folder in ('out/lib', 'lib')]
+    return found(user, names, f'out/libpartmem_{name}-unproved.a')

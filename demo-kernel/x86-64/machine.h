@@ -1,4 +1,4 @@
-/* What the kernel has to know of x86-64. */
+/* What the kernel has to know of x86-64. arm64/machine.h defines the same names. */
 #ifndef MACHINE_H
 #define MACHINE_H
 

@@ -1,4 +1,4 @@
-/* What the programs of partitions use of x86-64. */
+/* What the programs of partitions use of x86-64. arm64/user.h defines the same names. */
 #ifndef USER_H
 #define USER_H
 
