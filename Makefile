@@ -9,7 +9,7 @@ PROGRAMS := partmem framemap partcheck
 #   nothing that was built; refused-growths and pasted-first build without proofs:
 FROM_SOURCES := structure documents diagrams pages witnesses edits helps threads refused-growths pasted-first
 #   the programs that `rt ci` built:
-OVER_PROGRAMS := hostile-bytes refused-memory instructions conformance plain-machine pictures picture-page machines \
+OVER_PROGRAMS := hostile-bytes refused-memory instructions conformance findings plain-machine pictures picture-page machines \
     command-lines partcheck examples
 #   the library for C, and some of them the programs too:
 OVER_LIBRARY := same-path kernel-archives objtool in-place heap watched cpp use-from-c pasted demo-kernel linux rust \
