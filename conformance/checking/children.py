@@ -8,8 +8,9 @@ import time
 
 from .words import in_seconds
 
-# How often the processor time is read, in seconds. How many ticks it has a second.
-STEP, TICKS = 0.02, os.sysconf('SC_CLK_TCK')
+# How often the processor time is read, in seconds, and the most that is counted by the clock between two readings. How many ticks
+# it has a second.
+STEP, MAX_STEP, TICKS = 0.02, 0.1, os.sysconf('SC_CLK_TCK')
 SET_PARENT_DEATH_SIGNAL, SET_CHILD_SUBREAPER = 1, 36
 
 
@@ -74,14 +75,15 @@ class Budget:
         return self.by_processor + self.by_clock
 
     def is_spent(self):
-        """Returns whether the seconds are over. Has to be called often. The first STEP seconds are not counted."""
+        """Returns whether the seconds are over. Has to be called often. The first STEP seconds are not counted. If much more than
+        STEP has passed since the last call, this process itself waited for a processor, and the program may have ended since."""
         passed = time.monotonic() - self.then
         if passed >= STEP:
             self.then += passed
             now, is_running = used()
             more = max(0, now - self.before) if self.before is not None else 0
             self.by_processor += more
-            self.by_clock += passed if self.before is not None and not more and not is_running else 0
+            self.by_clock += min(passed, MAX_STEP) if self.before is not None and not more and not is_running else 0
             self.before = now
         return self.spent() >= self.seconds
 
