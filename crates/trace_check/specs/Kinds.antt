@@ -1,7 +1,6 @@
 -- The kind of answer that an event has.
 use Rattle.words_core.specs.declared.event.AdminCommand.{AdminCommand}
 use Rattle.words_core.specs.declared.event.Command.{Command}
-use Rattle.words_core.specs.declared.event.Event.{Event}
 use Rattle.trace_check.specs.declared.kinds.AnswerKind.{AnswerKind}
 
 abbrev pub kind_of_command : Command → AnswerKind

@@ -76,12 +76,16 @@ owner_in_way w (Event.Admin (AdminCommand.Move t u)) (Body.Moved named slot m) =
 owner_in_way w (Event.Admin (AdminCommand.TakeBack t u)) (Body.TakenBack m) = not_lost m (slice_get w.owners m)
 owner_in_way w event body = None
 
--- What is wrong with the bytes of the reply: how many bytes the command has, if the reply to a read has another number, or reports
--- another number to a write; otherwise the first wrong byte of a read.
-abbrev pub bytes_wrong : Known → Event → Body → Option Reason
-bytes_wrong w (Event.Tenant t (Command.Read place len)) (Body.Bytes read) = if length read.items == len
-    then option_map_or (λ s. option_map (λ wrong. Reason.Wrong wrong) (wrong_byte s.has s.cells place len read.items)) (slice_get w.states t) None
+-- what is wrong with these bytes, which a read of tenant t returned: how many bytes the read requests, if they are not as many, or
+-- else the first wrong byte
+abbrev pub read_wrong : Known → (t place len : ℕ) → List ℕ → Option Reason
+read_wrong w t place len bytes = if length bytes == len
+    then option_map_or (λ s. option_map (λ wrong. Reason.Wrong wrong) (wrong_byte s.has s.cells place len bytes)) (slice_get w.states t) None
     else Some (Reason.Count len)
+
+-- what is wrong with the bytes of the reply; the reply to a write has to report how many bytes the command has
+abbrev pub bytes_wrong : Known → Event → Body → Option Reason
+bytes_wrong w (Event.Tenant t (Command.Read place len)) (Body.Bytes read) = read_wrong w t place len read.items
 bytes_wrong w (Event.Tenant t (Command.Write place new)) (Body.Written n) = Some (Reason.Count (length new.items))
 bytes_wrong w event body = None
 

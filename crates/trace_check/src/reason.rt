@@ -6,7 +6,7 @@ ghost use Rattle.promise_core.specs.State.{Known};
 ghost use Rattle.reply_judge.specs.KnownMachine.{ShowsKnown};
 ghost use Rattle.trace_check.specs.Gathered.{Gathers};
 ghost use Rattle.trace_check.specs.Reasons.{IsBlockReason, IsReason, IsReasonOf, answer_read, bytes_wrong, not_gained, not_lost, owner_in_way};
-ghost use Rattle.trace_check.specs.Reasons.{form_due, left_for, page_freed, unfit_block, unfit_object};
+ghost use Rattle.trace_check.specs.Reasons.{form_due, left_for, page_freed, read_wrong, unfit_block, unfit_object};
 ghost use Rattle.trace_check.specs.declared.reason.Reason.TheVariants as Why;
 
 use crate::answer::read_answer;
@@ -222,16 +222,31 @@ fn bytes_reason(machine: &KnownMachine, event: &Event, answer: &Answer<'_>) -> O
 {
     match (event, answer) {
         (Event::Tenant(tenant, Command::Read { place, len }), Answer::Bytes(bytes)) => {
-            if bytes.len() != *len as usize {
-                return Some(Reason::Count(*len));
-            }
-            let wrong = machine.wrong_byte(*tenant, *place, *len, bytes)?;
-            Some(Reason::Wrong(wrong))
+            read_wrong(machine, *tenant, *place, *len, bytes)
         }
         (Event::Tenant(_, Command::Write { bytes, .. }), Answer::Written(_)) => {
             Some(Reason::Count(bytes.len() as u32))
         }
         _ => None,
+    }
+}
+
+/// Returns what is wrong with the bytes that a read of the tenant returned, or with their number.
+fn read_wrong(
+    machine: &KnownMachine,
+    tenant: u32,
+    place: u32,
+    len: u32,
+    bytes: &[u8],
+) -> Option<Reason>
+    ensures { (w : Known) → ShowsKnown machine.now w → result ≡ read_wrong w tenant place len bytes.now }
+{
+    if bytes.len() != len as usize {
+        return Some(Reason::Count(len));
+    }
+    match machine.wrong_byte(tenant, place, len, bytes) {
+        Some(wrong) => Some(Reason::Wrong(wrong)),
+        None => None,
     }
 }
 
