@@ -19,24 +19,24 @@ use words_core::Refusal;
 pub(crate) fn write_reason<W: Write>(
     out: &mut W,
     promise: Promise,
-    reason: Option<Reason>,
+    reason: &Option<Reason>,
 ) -> io::Result<()>
-    ensures { OnOk result (Appends (W.contents out.old) (W.contents out.new) (reason_text promise reason)) }
+    ensures { OnOk result (Appends (W.contents out.old) (W.contents out.new) (reason_text promise reason.now)) }
 {
     match reason {
-        Some(Reason::ToTenant { tenant, kind }) => write_to_tenant(out, tenant, kind),
-        Some(Reason::ToAdmin(kind)) => write_to_admin(out, kind),
+        Some(Reason::ToTenant { tenant, kind }) => write_to_tenant(out, *tenant, *kind),
+        Some(Reason::ToAdmin(kind)) => write_to_admin(out, *kind),
         Some(Reason::ToNobody) => out.write_all(b"the reply has to be !> refused 12 NoTenant"),
-        Some(Reason::Due(due)) => write_due(out, due),
-        Some(Reason::Freed(page)) => write_freed(out, &page),
+        Some(Reason::Due(due)) => write_due(out, *due),
+        Some(Reason::Freed(page)) => write_freed(out, page),
         Some(Reason::Taken(taken)) => write_taken(out, taken),
-        Some(Reason::Unfit { block, fault }) => write_unfit(out, &block, fault),
-        Some(Reason::Owned { superblock, owner }) => write_owned(out, superblock, owner),
-        Some(Reason::Unowned(superblock)) => write_unowned(out, superblock),
-        Some(Reason::Missing(superblock)) => write_missing(out, superblock),
-        Some(Reason::Wrong(wrong)) => write_wrong(out, &wrong),
-        Some(Reason::Count(count)) => write_count(out, count),
-        Some(Reason::Object { place, fault }) => write_object(out, place, fault),
+        Some(Reason::Unfit { block, fault }) => write_unfit(out, block, *fault),
+        Some(Reason::Owned { superblock, owner }) => write_owned(out, *superblock, *owner),
+        Some(Reason::Unowned(superblock)) => write_unowned(out, *superblock),
+        Some(Reason::Missing(superblock)) => write_missing(out, *superblock),
+        Some(Reason::Wrong(wrong)) => write_wrong(out, wrong),
+        Some(Reason::Count(count)) => write_count(out, *count),
+        Some(Reason::Object { place, fault }) => write_object(out, *place, fault),
         Some(Reason::Left(vacancy)) => write_left(out, vacancy),
         None => out.write_all(words_of(promise).as_bytes()),
     }
@@ -109,8 +109,8 @@ fn write_freed<W: Write>(out: &mut W, page: &FrameBlock) -> io::Result<()>
 }
 
 /// Writes which live page block has a frame of the reply's page block.
-fn write_taken<W: Write>(out: &mut W, taken: TakenFrame) -> io::Result<()>
-    ensures { OnOk result (Appends (W.contents out.old) (W.contents out.new) (taken_text taken)) }
+fn write_taken<W: Write>(out: &mut W, taken: &TakenFrame) -> io::Result<()>
+    ensures { OnOk result (Appends (W.contents out.old) (W.contents out.new) (taken_text taken.now)) }
 {
     let (frame, order, first) = (taken.frame, taken.page.order(), taken.page.first());
     write!(
@@ -219,13 +219,13 @@ fn write_count<W: Write>(out: &mut W, count: u32) -> io::Result<()>
 }
 
 /// Writes what keeps the object at the place from being taken.
-fn write_object<W: Write>(out: &mut W, place: u32, fault: ObjectFault) -> io::Result<()>
-    ensures { OnOk result (Appends (W.contents out.old) (W.contents out.new) (object_text place fault)) }
+fn write_object<W: Write>(out: &mut W, place: u32, fault: &ObjectFault) -> io::Result<()>
+    ensures { OnOk result (Appends (W.contents out.old) (W.contents out.new) (object_text place fault.now)) }
 {
     match fault {
         ObjectFault::Misaligned => write!(out, "place {place} is not a multiple of the alignment"),
-        ObjectFault::Page(page) => write_slab_over(out, &page),
-        ObjectFault::Unfit { slab, fault } => write_unfit(out, &slab, fault),
+        ObjectFault::Page(page) => write_slab_over(out, page),
+        ObjectFault::Unfit { slab, fault } => write_unfit(out, slab, *fault),
         ObjectFault::Over(other) => write!(out, "the object overlaps the one at {other}"),
         ObjectFault::Full => out.write_all(b"all objects of the slab are live"),
     }
@@ -243,8 +243,8 @@ fn write_slab_over<W: Write>(out: &mut W, page: &FrameBlock) -> io::Result<()>
 }
 
 /// Writes what is left for a request.
-fn write_left<W: Write>(out: &mut W, vacancy: Vacancy) -> io::Result<()>
-    ensures { OnOk result (Appends (W.contents out.old) (W.contents out.new) (left_text vacancy)) }
+fn write_left<W: Write>(out: &mut W, vacancy: &Vacancy) -> io::Result<()>
+    ensures { OnOk result (Appends (W.contents out.old) (W.contents out.new) (left_text vacancy.now)) }
 {
     match vacancy {
         Vacancy::Block(block) => {

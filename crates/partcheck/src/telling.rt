@@ -79,7 +79,7 @@ fn write_breach<W: Write>(out: &mut W, breach: &Breach, shown: &Shown) -> io::Re
     let reply_text = lines_read(shown.reply.front());
     write_shown(out, reply_text, MAX_REPLY_BYTES, "nothing")?;
     write!(out, ": {promise}: ")?;
-    write_reason(out, *promise, shown.reason)?;
+    write_reason(out, *promise, &shown.reason)?;
     out.write_all(b"\n")
 }
 
