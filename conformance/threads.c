@@ -25,8 +25,9 @@
 #include <unistd.h>
 
 enum { CALLS = 8192, ROUNDS = 100, MAX_TENANTS = 64, MAX_SUPERBLOCKS = 256, MAX_HELD = 1024, MAX_NUMBERS = 5 };
-/* The threads are interrupted about each INTERVAL microseconds. */
-enum { INTERVAL = 20 };
+/* The threads of a run are interrupted about each INTERVAL microseconds. The first YIELDS times another thread may run then. Each
+ * time a thread may also wait for other programs, so on a busy machine more would take long. */
+enum { INTERVAL = 20, YIELDS = 256 };
 /* One number in ONE_IN is wrong. A list fills or drains memory for about PHASE calls. */
 enum { ONE_IN = 16, PHASE = 256 };
 /* A run hangs if no call returns for SECONDS seconds. If it does not end by SIGABRT within ABORT_SECONDS, it is killed. Before a
@@ -294,27 +295,34 @@ static void need(bool is_right, const char *what) {
     }
 }
 
-/* Lets another thread run. */
 static void yield(int signal) {
+    static atomic_int yields;
     (void)signal;
-    sched_yield();
+    if (yields++ < YIELDS)
+        sched_yield();
 }
 
-/* Runs lists, each on a thread of its own. A timer interrupts the threads, also in the middle of a call, so that calls of several
- * tenants are under way at the same time even if there is one processor. The main thread blocks its signal. */
-static void run_threads(struct list *lists, unsigned count) {
+/* Makes a timer interrupt the threads, also in the middle of a call, so that calls of several tenants are under way at the same
+ * time even if there is one processor. This thread blocks its signal. */
+static void start_timer(void) {
     const struct timeval interval = {.tv_usec = INTERVAL};
     const struct sigaction action = {.sa_handler = yield, .sa_flags = SA_RESTART};
-    pthread_t threads[MAX_TENANTS];
     sigset_t alarm;
     sigemptyset(&alarm);
     sigaddset(&alarm, SIGALRM);
     sigaction(SIGALRM, &action, NULL);
+    pthread_sigmask(SIG_BLOCK, &alarm, NULL);
+    setitimer(ITIMER_REAL, &(struct itimerval){interval, interval}, NULL);
+}
+
+/* Runs lists, each on a thread of its own. */
+static void run_threads(struct list *lists, unsigned count) {
+    pthread_t threads[MAX_TENANTS];
     pthread_barrier_init(&start, NULL, count);
     for (unsigned i = 0; i < count; i++)
         need(pthread_create(&threads[i], NULL, run_list, &lists[i]) == 0, "cannot start a thread");
-    pthread_sigmask(SIG_BLOCK, &alarm, NULL);
-    setitimer(ITIMER_REAL, &(struct itimerval){interval, interval}, NULL);
+    if (count > 1)
+        start_timer();
     for (unsigned i = 0; i < count; i++)
         pthread_join(threads[i], NULL);
     setitimer(ITIMER_REAL, &(struct itimerval){0}, NULL);
