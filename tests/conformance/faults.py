@@ -427,7 +427,7 @@ HEAVY_LISTS = [
          f'{TAKEN}    counts[tenant] = (counts[tenant] + 1) % (1u << {bits});\n'),
         ('    *superblocks = 0;\n',
          '    *superblocks = 0;\n    counts[tenant] = 0;\n')], by='--long' if bits > 12 else 'many_blocks')
-      for bits in (11, 12, 13, 15)),
+      for bits in (11, 12, 15)),
     Fault('late', 'allocation 10,000 is refused', 'Room', [
         ('    if (from > top)',
          '    static unsigned calls;\n    if (from > top || ++calls % 10000 == 0)')], by='rounds'),
@@ -437,9 +437,6 @@ HEAVY_LISTS = [
     Fault('late', 'free 10,000 loses its block', 'Room', [
         ('    push(of, frame, joined);\n',
          '    static unsigned calls;\n    if (++calls % 10000 != 0)\n        push(of, frame, joined);\n')], by='rounds'),
-    Fault('late', 'free 65,536 is refused', 'Refusals', [
-        (FREED,
-         f'{FREED}    static uint16_t calls;\n    if (++calls == 0)\n        return NOT_A_BLOCK;\n')], by='many_frees'),
     Fault('late', 'free 65,536 loses its block', 'Room', [
         ('    push(of, frame, joined);\n',
          '    static uint16_t calls;\n    if (++calls != 0)\n        push(of, frame, joined);\n')], by='many_frees'),
@@ -507,19 +504,19 @@ HEAVY_SLABS = [
          '    if (slab->live == 0 && empty_of_all() > 400)\n'
          '        for (unsigned other = 0; other < how_many; other++)\n'
          '            drop_all_empty(other, &freed);\n')], by='many_caches'),
-    *(Fault('overflow', f'the objects of a cache are counted in {bits} bits', 'Refusals', [
+    Fault('overflow', 'the objects of a cache are counted in 12 bits', 'Refusals', [
         ('    for (unsigned at = 0; at < cache->count; at++)\n'
          '        if (cache->slabs[at].live > 0)\n'
          '            return CACHE_IN_USE;\n',
          '    unsigned live = 0;\n'
          '    for (unsigned at = 0; at < cache->count; at++)\n'
          '        live += cache->slabs[at].live;\n'
-         f'    if (live % (1u << {bits}) > 0)\n'
-         '        return CACHE_IN_USE;\n')], by='many_objects') for bits in (10, 11, 12)),
-    *(Fault('overflow', f'the slabs of a cache are counted in {bits} bits', 'Refusals Failed Bytes Objects Report Room', [
+         '    if (live % 4096 > 0)\n'
+         '        return CACHE_IN_USE;\n')], by='many_objects'),
+    Fault('overflow', 'the slabs of a cache are counted in 12 bits', 'Refusals Failed Bytes Objects Report Room', [
         ('length, count;\n',
          'length;\n'
-         f'    unsigned count : {bits};\n')], by='many_slabs') for bits in (10, 11, 12)),
+         '    unsigned count : 12;\n')], by='many_slabs'),
     Fault('overflow', 'a report has the objects of a cache in 12 bits', 'Report', [
         ('            row->live += slab->live;\n',
          '            row->live = (row->live + slab->live) % 4096;\n')], by='many_objects'),
