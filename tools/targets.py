@@ -55,8 +55,8 @@ WORDS = """
     nounwind nobuiltin noreturn cold alwaysinline inlinehint noinline nocallback nofree nosync speculatable willreturn
     memory argmem inaccessiblemem write readwrite
 """.split()
-INTRINSICS = ["llvm.memset.p0.i64", "llvm.memmove.p0.p0.i64", "llvm.trap", "llvm.ctlz.i32", "llvm.ctlz.i64", "llvm.cttz.i32",
-              "llvm.cttz.i64"]
+INTRINSICS = ["llvm.memset.p0.i64", "llvm.memmove.p0.p0.i64", "llvm.trap", "llvm.ctlz.i16", "llvm.ctlz.i32", "llvm.ctlz.i64",
+              "llvm.cttz.i32", "llvm.cttz.i64"]
 METADATA = ["noundef", "range", "llvm.ident"]
 # Attributes that are text. Those of the processor and its stack are removed.
 KEPT = ["frame-pointer", "no-builtin-bcmp", "no-builtin-memcmp", "no-builtin-strlen"]
