@@ -1,6 +1,11 @@
 pub mod MachineLists
 pub mod Worlds
 pub mod OwnListRuns
+pub mod SameLocks
+pub mod AnyOrder
+pub mod Commuting
+pub mod OverlappingCalls
+pub mod SideBySide
 pub mod ReplyLines
 pub mod TenantLines
 pub mod ShownReplies
@@ -15,3 +20,4 @@ mod ComputedTraces
 pub mod Rows
 pub mod Witnesses
 pub mod WitnessesReached
+pub mod WitnessesSideBySide

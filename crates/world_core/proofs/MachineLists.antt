@@ -13,6 +13,14 @@ slice_get-set_other (z ∷ zs) zero (suc j) y other = refl
 slice_get-set_other (z ∷ zs) (suc i) zero y other = refl
 slice_get-set_other (z ∷ zs) (suc i) (suc j) y other = slice_get-set_other zs i j y (λ e. other (ap suc e))
 
+-- two elements may be replaced in either order
+pub slice_set-set_other : {A : Type 0} (xs : List A) (i j : ℕ) (x y : A) → i ≢ j → slice_set (slice_set xs i x) j y ≡ slice_set (slice_set xs j y) i x
+slice_set-set_other [] i j x y other = refl
+slice_set-set_other (z ∷ zs) zero zero x y other = absurd (other refl)
+slice_set-set_other (z ∷ zs) zero (suc j) x y other = refl
+slice_set-set_other (z ∷ zs) (suc i) zero x y other = refl
+slice_set-set_other (z ∷ zs) (suc i) (suc j) x y other = ap (λ ys. z ∷ ys) (slice_set-set_other zs i j x y (λ e. other (ap suc e)))
+
 pub slice_set-same : {A : Type 0} (xs : List A) (i : ℕ) (x : A) → slice_get xs i ≡ Some x → slice_set xs i x ≡ xs
 slice_set-same [] i x h = refl
 slice_set-same (z ∷ zs) zero x h = let same : z ≡ x = cc in ap (λ y. y ∷ zs) (sym same)

@@ -3,6 +3,8 @@ pub mod PrivateStep
 pub mod PrivateRun
 pub mod World
 pub mod OwnList
+pub mod Locks
 pub mod Output
 pub mod Laws
+pub mod SideBySide
 pub mod Reached

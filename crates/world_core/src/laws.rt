@@ -2,6 +2,7 @@
 
 ghost use Rattle.world_core.specs.Laws.{OwnRun, MoreCaches, OwnLines, SameReplies, SameTexts, SameLines, AllShown, OwnShown, OwnLinesShown, EndedAllButTail, EndedLinesStay, ShownStays};
 ghost use Rattle.world_core.specs.Reached.{EntriesAreOperations, OwnListsAreRequests, ReachedWellFormed, ReachedSound, ReachedFreeOnce, ReachedSplits, ReachedJoins, ReachedApart, ReachedRecordsFree, ReachedConstructed, ReachedConstructedWhenTaken, ReachedBlock, ReachedObject, NobodyStarves};
+ghost use Rattle.world_core.specs.SideBySide.{EventsCommute, SameWorldInAnyOrder, SameRepliesInAnyOrder, BegunAsEnded};
 
 /// In every run from the opening world, a tenant gets exactly the replies of a private machine that runs only the tenant's own
 /// commands, grants, take-backs and resets. At the end of the run, the tenant's machine is equal to this private machine.
@@ -90,4 +91,16 @@ pub fn nobody_starves()
     ensures block { ReachedBlock }
     ensures object { ReachedObject }
     ensures world { NobodyStarves }
+{}
+
+/// An event needs the lock of the tenant that it names, and a command of the administrator also needs the administrator's lock. Two
+/// events without a common lock leave the same world and get the same replies in either order. If two lists have, for each lock,
+/// the same events that need it in the same order, they leave the same world from any world, and under each lock the same events
+/// get the same replies. If each call holds its locks from its beginning to its end, the order in which the calls begin and the
+/// order in which they end are two such lists.
+pub fn side_by_side()
+    ensures commute { EventsCommute }
+    ensures world { SameWorldInAnyOrder }
+    ensures replies { SameRepliesInAnyOrder }
+    ensures overlaps { BegunAsEnded }
 {}
