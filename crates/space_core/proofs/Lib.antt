@@ -7,6 +7,7 @@ mod MappingKept
 pub mod InvariantKept
 pub mod VacantSlots
 pub mod Vacancies
+mod SeatLemmas
 mod Places
 pub mod BytesUnderSlots
 mod OwnBytes

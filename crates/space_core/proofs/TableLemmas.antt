@@ -6,7 +6,7 @@ use Rattle.std.proofs.Math.ListN.{set}
 use Rattle.std.specs.Global.{Vec}
 use Rattle.std.specs.Vec.{with_items}
 use Rattle.space_core.specs.Storage.{HaveCapacity}
-use Rattle.space_core.specs.Tables.{stored_bytes}
+use Rattle.space_core.specs.Tables.{stored_rows}
 
 abbrev pub lists_of : {X : Type 0} → List (Vec X) → List (List X)
 lists_of rows = map (λ row. row.items) rows
@@ -37,7 +37,7 @@ pub back_written : {A : Type 0} (xs front back : List A) (i : ℕ) (x : A) → x
 back_written xs front back i x whole size = ap (λ n. front ++ set back n x) (omega arith) ∙ (sym (set-append_right front back i i x size (omega arith)) ∙ ap (λ ys. set ys i x) (sym whole))
 
 -- if row `to` of the vectors gets the items of row `from`, the stored bytes of superblock `to` become those of superblock `from`
-pub bytes_of-copied : (v : Vec (Vec ℕ)) (all : List (Vec ℕ)) (from to : ℕ) (source row : Vec ℕ) → all ≡ set v.items to row → from < length v.items → source ≡ get_or v.items from source → row.items ≡ source.items → stored_bytes (with_items v all) ≡ set (stored_bytes v) to (get_or (stored_bytes v) from [])
+pub bytes_of-copied : (v : Vec (Vec ℕ)) (all : List (Vec ℕ)) (from to : ℕ) (source row : Vec ℕ) → all ≡ set v.items to row → from < length v.items → source ≡ get_or v.items from source → row.items ≡ source.items → stored_rows (with_items v all) ≡ set (stored_rows v) to (get_or (stored_rows v) from [])
 bytes_of-copied v all from to source row written within read same =
     ap lists_of (with_items_is v all (ap length written ∙ omega (arith, length-set v.items to row, v.ok.0)) ∙ written)
     ∙ (lists_of-set v.items to row ∙ ap (λ (bytes : List ℕ). set (lists_of v.items) to bytes) (same ∙ sym (get_or-lists_of v.items from source within read)))

@@ -14,7 +14,7 @@ first_step : {A : Type 0} (x : Option A) (xs : List (Option A))
 first_step None xs = refl
 first_step (Some x) xs = omega arith
 
-map_replicate : {A B : Type 0} (f : A → B) (n : ℕ) (a : A) → map f (replicate n a) ≡ replicate n (f a)
+pub map_replicate : {A B : Type 0} (f : A → B) (n : ℕ) (a : A) → map f (replicate n a) ≡ replicate n (f a)
 map_replicate f zero a = refl
 map_replicate f (suc n) a = ap (λ xs. f a ∷ xs) (map_replicate f n a)
 

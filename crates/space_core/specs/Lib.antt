@@ -6,3 +6,4 @@ pub mod Laws
 pub mod Tables
 pub mod Storage
 pub mod Vacancy
+pub mod Seats

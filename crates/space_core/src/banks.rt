@@ -2,7 +2,7 @@
 
 ghost use Rattle.std.specs.Prelude.{◌≡◌, ◌≢◌, ◌^◌, ◌<◌, ◌≤◌, length, replicate, IfOk, slice_set, vec_len, vec_capacity, ℕ, []};
 ghost use Rattle.space_core.specs.Content.{bank};
-ghost use Rattle.space_core.specs.Tables.{stored_bytes};
+ghost use Rattle.space_core.specs.Tables.{stored_rows};
 ghost use Rattle.space_core.specs.Storage.{HaveCapacity, or_zeros};
 
 use std::alloc::{AllocError, Global};
@@ -10,7 +10,7 @@ use std::alloc::{AllocError, Global};
 /// Empties the vector of superblock `m`, which then reads as zero.
 pub(crate) fn clear_bank(banks: &mut Vec<Vec<u8>>, m: usize)
     requires { m < vec_len banks.old }
-    ensures bytes { stored_bytes banks.new ≡ slice_set (stored_bytes banks.old) m [] }
+    ensures bytes { stored_rows banks.new ≡ slice_set (stored_rows banks.old) m [] }
     ensures capacity { (unit : ℕ) → HaveCapacity unit banks.old.items → HaveCapacity unit banks.new.items }
 {
     banks[m].clear();
@@ -21,8 +21,8 @@ pub(crate) fn clear_bank(banks: &mut Vec<Vec<u8>>, m: usize)
 pub(crate) fn write_out(banks: &mut Vec<Vec<u8>>, m: usize, unit: usize)
     requires bank { m < vec_len banks.old }
     requires capacity { HaveCapacity unit banks.old.items }
-    ensures banks { stored_bytes banks.new
-        ≡ slice_set (stored_bytes banks.old) m (or_zeros unit (bank (stored_bytes banks.old) m)) }
+    ensures banks { stored_rows banks.new
+        ≡ slice_set (stored_rows banks.old) m (or_zeros unit (bank (stored_rows banks.old) m)) }
     ensures capacity { HaveCapacity unit banks.new.items }
 {
     if banks[m].is_empty() {
@@ -53,8 +53,8 @@ pub(crate) fn copy_bank(banks: &mut Vec<Vec<u8>>, from: usize, to: usize)
     requires from { from < vec_len banks.old }
     requires to { to < vec_len banks.old }
     requires apart { from ≢ to }
-    requires capacity { HaveCapacity (length (bank (stored_bytes banks.old) from)) banks.old.items }
-    ensures bytes { stored_bytes banks.new ≡ slice_set (stored_bytes banks.old) to (bank (stored_bytes banks.old) from) }
+    requires capacity { HaveCapacity (length (bank (stored_rows banks.old) from)) banks.old.items }
+    ensures bytes { stored_rows banks.new ≡ slice_set (stored_rows banks.old) to (bank (stored_rows banks.old) from) }
     ensures capacity { (unit : ℕ) → HaveCapacity unit banks.old.items → HaveCapacity unit banks.new.items }
 {
     if from < to {
@@ -79,9 +79,9 @@ fn copy_bytes(bytes: &mut Vec<u8>, source: &[u8])
 /// Sets stored byte `i` of superblock `m`. The vector of the superblock must not be empty.
 pub(crate) fn set_byte_at(banks: &mut Vec<Vec<u8>>, m: usize, i: usize, byte: u8)
     requires bank { m < vec_len banks.old }
-    requires byte { i < length (bank (stored_bytes banks.old) m) }
-    ensures bytes { stored_bytes banks.new
-        ≡ slice_set (stored_bytes banks.old) m (slice_set (bank (stored_bytes banks.old) m) i byte) }
+    requires byte { i < length (bank (stored_rows banks.old) m) }
+    ensures bytes { stored_rows banks.new
+        ≡ slice_set (stored_rows banks.old) m (slice_set (bank (stored_rows banks.old) m) i byte) }
     ensures capacity { (unit : ℕ) → HaveCapacity unit banks.old.items → HaveCapacity unit banks.new.items }
 {
     banks[m][i] = byte;
@@ -95,7 +95,7 @@ pub(crate) fn make_banks(
     unit: usize,
 ) -> Result<Vec<Vec<u8>>, AllocError>
     requires { unit < 2 ^ 32 }
-    ensures bytes { IfOk result (λ banks. stored_bytes banks ≡ replicate count []) }
+    ensures bytes { IfOk result (λ banks. stored_rows banks ≡ replicate count []) }
     ensures capacity { IfOk result (λ banks. HaveCapacity unit banks.items) }
 {
     let mut banks = Vec::with_capacity(alloc, count)?;

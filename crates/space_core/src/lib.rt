@@ -13,17 +13,19 @@
 
 mod banks;
 mod pool;
+mod seats;
 mod vacancy;
 mod windows;
 
 ghost use Rattle.std.specs.Prelude.{◌≡◌, ◌*◌, ◌^◌, ◌≤◌, IfOk};
 ghost use Rattle.model_core.specs.declared.limits.TheConstants.{FRAME_BYTES, MAX_ORDER, MAX_SUPERBLOCKS, MAX_TENANTS};
 ghost use Rattle.space_core.specs.Content.{empty_space};
-ghost use Rattle.space_core.specs.Tables.{stored_slots, stored_bytes};
+ghost use Rattle.space_core.specs.Tables.{stored_rows};
 ghost use Rattle.space_core.specs.Laws.{SpaceLaws};
 
 use crate::banks::make_banks;
 use crate::pool::make_rows;
+use crate::seats::make_seats;
 use crate::vacancy::Vacancy;
 pub use model_core::limits::FRAME_BYTES;
 use model_core::owner::Owner;
@@ -62,6 +64,9 @@ pub struct Space {
     bits: u8,
     owners: Vec<Option<Owner>>,
     slots: Vec<Vec<Option<u16>>>,
+    // For each tenant and each superblock, the slot of the tenant that uses the superblock, or `NO_SLOT`. A tenant's lookups read
+    // only its own row, and never `owners`, which the administrator writes.
+    seats: Vec<Vec<u16>>,
     // The superblocks without an owner, and the slots that each tenant does not hold.
     vacancy: Vacancy,
     // The stored bytes of each superblock. The vector has its full capacity, but is empty from boot or from a grant until a byte
@@ -73,8 +78,10 @@ pub struct Space {
 }
 
 impl Model for Space {
+    ghost use Rattle.std.specs.Prelude.{length};
     ghost use Rattle.space_core.specs.Content.{Content, IsSpace};
-    ghost use Rattle.space_core.specs.Tables.{stored_slots, stored_bytes};
+    ghost use Rattle.space_core.specs.Tables.{stored_rows};
+    ghost use Rattle.space_core.specs.Seats.{AreSeats};
     ghost use Rattle.space_core.specs.Storage.{shown_banks, IsStored};
     ghost use Rattle.space_core.specs.Vacancy.{IsVacancy};
 
@@ -83,20 +90,21 @@ impl Model for Space {
     ghost view = { λ s. record {
       unit = s.unit;
       owners = s.owners.items;
-      slots = stored_slots s.slots;
-      banks = shown_banks s.unit (stored_bytes s.banks);
+      slots = stored_rows s.slots;
+      banks = shown_banks s.unit (stored_rows s.banks);
       marks = s.marks.items;
     } };
 
     ghost invariant = { λ s. IsSpace (record {
       unit = s.unit;
       owners = s.owners.items;
-      slots = stored_slots s.slots;
-      banks = shown_banks s.unit (stored_bytes s.banks);
+      slots = stored_rows s.slots;
+      banks = shown_banks s.unit (stored_rows s.banks);
       marks = s.marks.items;
     })
         × IsStored s.unit s.bits s.banks.items s.zeros.items
-        × IsVacancy s.owners.items (stored_slots s.slots) s.vacancy.unowned s.vacancy.vacant.items };
+        × IsVacancy s.owners.items (stored_rows s.slots) s.vacancy.unowned s.vacancy.vacant.items
+        × AreSeats s.owners.items (length (stored_rows s.slots)) (stored_rows s.seats) };
 }
 
 impl Space {
@@ -114,6 +122,7 @@ impl Space {
         let bits = FRAME_BITS + order;
         let owners = vec![in alloc; None; usize::from(superblocks)]?;
         let slots = make_rows(alloc, usize::from(tenants), usize::from(superblocks))?;
+        let seats = make_seats(alloc, usize::from(tenants), usize::from(superblocks))?;
         let vacancy = Vacancy::new(alloc, superblocks, tenants)?;
         let banks = make_banks(alloc, usize::from(superblocks), unit as usize)?;
         let marks = vec![in alloc; false; usize::from(superblocks)]?;
@@ -123,6 +132,7 @@ impl Space {
             bits,
             owners,
             slots,
+            seats,
             vacancy,
             banks,
             marks,

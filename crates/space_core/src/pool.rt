@@ -1,11 +1,12 @@
 //! The pool and the mapping in both directions: superblocks with their owners and marks, and the slots of each tenant.
 
-ghost use Rattle.std.specs.Prelude.{◌≡◌, ◌<◌, ◌↔◌, Some, None, length, position, is_none, count_by, replicate, option_map, IsSome, IfSome, IfOk, OnErr, MatchResult, vec_len};
+ghost use Rattle.std.specs.Prelude.{◌≡◌, ℕ, ◌<◌, ◌↔◌, Some, None, length, position, is_none, count_by, replicate, option_map, IsSome, IfSome, IfOk, OnErr, MatchResult, vec_len};
 ghost use Rattle.space_core.specs.Content.{bank, owner_at, mark_at, slots_of, superblock_at};
 ghost use Rattle.space_core.specs.Changes.{IsLeastSlot, with_entry, with_grant, with_take_back, with_move};
-ghost use Rattle.space_core.specs.Tables.{stored_slots};
+ghost use Rattle.space_core.specs.Tables.{stored_rows};
 
 use crate::banks::{clear_bank, copy_bank};
+use crate::seats::{NO_SLOT, set_seat};
 use crate::{MoveRefusal, NoSlot, PoolEmpty, Space};
 use model_core::owner::Owner;
 use std::alloc::{AllocError, Global};
@@ -31,6 +32,7 @@ impl Space {
         self.marks[usize::from(m)] = false;
         self.owners[usize::from(m)] = Some(Owner { tenant: t, slot: u });
         set_slot(&mut self.slots, t, usize::from(u), Some(m));
+        set_seat(&mut self.seats, t, usize::from(m), u);
         self.vacancy.fill(t, u, m);
         Ok((u, m))
     }
@@ -51,6 +53,7 @@ impl Space {
         self.marks[usize::from(m)] = true;
         self.owners[usize::from(m)] = None;
         set_slot(&mut self.slots, t, slot as usize, None);
+        set_seat(&mut self.seats, t, usize::from(m), NO_SLOT);
         self.vacancy.empty(t, slot as u16, m);
         Ok(m)
     }
@@ -80,6 +83,8 @@ impl Space {
         self.marks[target] = false;
         self.owners.swap(source, target);
         set_slot(&mut self.slots, t, slot as usize, Some(to));
+        set_seat(&mut self.seats, t, source, NO_SLOT);
+        set_seat(&mut self.seats, t, target, slot as u16);
         self.vacancy.pass(from, to);
         Ok((from, to))
     }
@@ -92,6 +97,20 @@ impl Space {
     {
         self.laws();
         self.row(t).get(slot as usize).copied().flatten()
+    }
+
+    /// Returns the slot of tenant `t` that uses superblock `m`, or `None` if no slot of the tenant does. Reads only the tenant's
+    /// own row of `seats`.
+    pub fn slot_under(&self, t: u8, m: u16) -> Option<u16>
+        requires tenant { t < length self.now.slots }
+        requires superblock { m < length self.now.owners }
+        ensures { (u : ℕ) → (result ≡ Some u) ↔ (superblock_at self.now.slots t u ≡ Some m) }
+    {
+        let seat = self.seats[usize::from(t)][usize::from(m)];
+        if seat == NO_SLOT {
+            return None;
+        }
+        Some(seat)
     }
 
     /// Returns the owner of superblock `m`, if it has one.
@@ -181,8 +200,8 @@ impl Space {
 /// Sets the superblock of slot `u` of tenant `t`; `None` empties the slot.
 pub(crate) fn set_slot(slots: &mut Vec<Vec<Option<u16>>>, t: u8, u: usize, to: Option<u16>)
     requires tenant { t < vec_len slots.old }
-    requires slot { u < length (slots_of (stored_slots slots.old) t) }
-    ensures { stored_slots slots.new ≡ with_entry (stored_slots slots.old) t u to }
+    requires slot { u < length (slots_of (stored_rows slots.old) t) }
+    ensures { stored_rows slots.new ≡ with_entry (stored_rows slots.old) t u to }
 {
     slots[usize::from(t)][u] = to;
 }
@@ -193,7 +212,7 @@ pub(crate) fn make_rows(
     tenants: usize,
     superblocks: usize,
 ) -> Result<Vec<Vec<Option<u16>>>, AllocError>
-    ensures { IfOk result (λ rows. stored_slots rows ≡ replicate tenants (replicate superblocks None)) }
+    ensures { IfOk result (λ rows. stored_rows rows ≡ replicate tenants (replicate superblocks None)) }
 {
     let mut rows = Vec::with_capacity(alloc, tenants)?;
     for _ in 0..tenants {

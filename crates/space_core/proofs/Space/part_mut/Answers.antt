@@ -63,6 +63,7 @@ invariant_of-self-lent c = λ w.
         size = c.self.invariant.1.size;
       },
       c.self.invariant.2,
+      c.self.invariant.3,
     )
 
 pub returns : goal.returns

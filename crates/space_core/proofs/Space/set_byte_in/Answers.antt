@@ -39,6 +39,7 @@ invariant_of-self c =
       subst (λ bs. IsSpace (with_banks s bs)) (sym same) (with_bank-IsSpace facts m has_owner within (set (get_or s.banks m []) i c.args.byte) size),
       record { few = c.self.invariant.1.few; size = c.self.invariant.1.size; capacity = c.set_byte_at.ensures.capacity s.unit c.write_out.ensures.capacity; blank = c.self.invariant.1.blank },
       c.self.invariant.2,
+      c.self.invariant.3,
     )
 
 pub returns : goal.returns

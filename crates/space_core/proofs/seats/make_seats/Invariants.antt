@@ -1,0 +1,6 @@
+use Rattle.std.proofs.Common.{◌≡◌, replicate}
+use Rattle.space_core.specs.Tables.{stored_rows}
+use Rattle.space_core.proofs.seats.make_seats.Given as goal
+
+abbrev pub invariant-loop : goal.invariant-loop
+invariant-loop l = stored_rows l.rows ≡ replicate l.counter (replicate l.superblocks 65535)
