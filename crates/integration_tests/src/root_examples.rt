@@ -4,6 +4,22 @@ use std::test::Fail;
 
 #[test]
 #[rattlefmt::skip]
+fn sets_core_example(rt: HostRuntime) -> Result<(), Fail> {
+    use sets_core::BitSet;
+
+    // The numbers below 256 without 0 to 69.
+    let mut set = BitSet::full(rt.alloc(), 256)?;
+    for number in 0..70 {
+        set.remove(number);
+    }
+    assert_eq!(rt; set.first(), Some(70));
+    set.insert(3);
+    assert_eq!(rt; set.first(), Some(3));
+    Ok(())
+}
+
+#[test]
+#[rattlefmt::skip]
 fn buddy_core_example(rt: HostRuntime) -> Result<(), Fail> {
     use buddy_core::Buddy;
 

@@ -1,5 +1,20 @@
 //! Sets of small numbers: bits in words of 64 bits, in two levels. One word has a bit for each word of the set, so that the least
 //! number in the set is found in two steps, whatever the set's size.
+//!
+//! # Example
+//!
+//! ```
+//! use sets_core::BitSet;
+//!
+//! // The numbers below 256 without 0 to 69.
+//! let mut set = BitSet::full(rt.alloc(), 256)?;
+//! for number in 0..70 {
+//!     set.remove(number);
+//! }
+//! assert_eq!(rt; set.first(), Some(70));
+//! set.insert(3);
+//! assert_eq!(rt; set.first(), Some(3));
+//! ```
 #![tactic(auto)]
 
 ghost use Rattle.std.specs.Prelude.{◌≡◌, ◌-◌, ◌^◌, ◌<◌, ◌≤◌, true, false, length, position, replicate, slice_set, IfOk, IfSome};
