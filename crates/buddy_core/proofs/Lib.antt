@@ -8,7 +8,6 @@ pub mod TreeChanges
 pub mod TreeSteps
 pub mod TreeSearch
 pub mod TreeSlots
-pub mod RootOrders
 pub mod FreeBlockCounts
 pub mod BlockSteps
 pub mod TenantCounts
@@ -22,4 +21,9 @@ pub mod SlotMoved
 pub mod NothingHeld
 pub mod TenantReset
 pub mod Holdings
-pub mod SummaryBounds
+pub mod ExactSummaries
+pub mod FirstSlot
+pub mod SummaryColumns
+pub mod NoNumbers
+pub mod SetFlipped
+pub mod SummaryNoted

@@ -1,6 +1,5 @@
 -- A release removes one taken block from its superblock and its tenant, as `IsStep` says.
-use Rattle.std.specs.Int.{bit_at}
-use Rattle.std.proofs.Common.{◌≡◌, ◌⊎◌, Option, refl, sym, ◌∙◌, ap, subst, ℕ, ◌+◌, ◌-◌, ◌*◌, ◌/◌, ◌%◌, ◌^◌, ◌<◌, ◌≤◌, Bool, Some, None, List, length, get_or, set, arith}
+use Rattle.std.proofs.Common.{◌≡◌, Option, refl, sym, ◌∙◌, ap, subst, ℕ, ◌+◌, ◌-◌, ◌*◌, ◌/◌, ◌%◌, ◌^◌, ◌<◌, ◌≤◌, Bool, Some, None, List, length, get_or, set, arith}
 use Rattle.std.specs.Prelude.{slice_index}
 use Rattle.std.proofs.lemmas.Nat.{div-mul-add, mod_below, pow_pos, shr_split}
 use Rattle.std.proofs.Math.Nat.{mul-le-mul_right}
@@ -21,7 +20,6 @@ use Rattle.buddy_core.proofs.TenantCounts.{table_size, count_set, order_here, ta
 use Rattle.model_core.proofs.CountBelow.{bit}
 use Rattle.buddy_core.proofs.FreeBlockCounts.{free_balance, half_counts}
 use Rattle.buddy_core.proofs.TreeSlots.{less_in_slot, same_elsewhere, open_in_slot, number_in}
-use Rattle.buddy_core.proofs.RootOrders.{word_before}
 use Rattle.buddy_core.proofs.BlockSteps.{IsStep, changed}
 
 -- s' and tenant' are s and tenant after the block of order k at frame x is released and becomes part of a free block of order j
@@ -174,11 +172,3 @@ module _ {top : ℕ} {superblocks : List StoredSuperblock} {tenants : List Store
         let before : bit (has_order i (get_or (holding_shown top superblocks (stored_tenant t tenants)).taken (frame / 2 ^ top * 2 ^ top + x) None)) ≡ bit (has_order i (Some k)) = ap (λ o. bit (has_order i o)) entry in
         omega arith;
   }
-
-  -- if the root word's bit for order i is 1 after the release, i is the order of the joined block, or the bit was 1 before
-  pub released_orders : (s : StoredSuperblock) (after : StoredTenant) → Released joined_order k x (superblock_of m superblocks) (stored_tenant t tenants) s after
-      → (i : ℕ) → bit_at (slice_index s.tree.words 0) i ≡ 1 → (i ≡ joined_order) ⊎ (bit_at (slice_index (superblock_of m superblocks).tree.words 0) i ≡ 1)
-  released_orders s after r =
-      word_before top k joined_order x (λ y. is_available top held freed (frame / 2 ^ top * 2 ^ top + y)) (λ y. is_available top held taken (frame / 2 ^ top * 2 ^ top + y)) rises joined_open
-      (less_in_slot (is_available top held freed) (is_available top held taken) top (frame / 2 ^ top) x k joined_order out)
-      s.tree.words (superblock_of m superblocks).tree.words (released_step s after r).shows (mine.shows (frame / 2 ^ top) m at.slot)

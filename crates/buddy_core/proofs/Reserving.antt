@@ -26,7 +26,6 @@ use Rattle.model_core.proofs.CountBelow.{bit}
 use Rattle.model_core.proofs.Lists.{some_of}
 use Rattle.buddy_core.proofs.FreeBlockCounts.{count_some, count_found, frame_below, free_balance, whole_counts}
 use Rattle.buddy_core.proofs.TreeSlots.{root_tells, least_free, less_in_slot, same_elsewhere}
-use Rattle.buddy_core.proofs.RootOrders.{word_after}
 use Rattle.buddy_core.proofs.BlockSteps.{IsStep, changed}
 
 -- s' and tenant' are s and tenant after a block of order k at frame x is taken out of a free block of order j
@@ -205,12 +204,3 @@ module _ {top : ℕ} {superblocks : List StoredSuperblock} {tenants : List Store
       words : (large small : ℕ → Bool) → Shows top large (superblock_of p.superblock superblocks).tree.words → IsOpen large top p.order (number_at p.order x) → IsLess small large k x → Shows top small s.tree.words
       words = subst (λ n. (large small : ℕ → Bool) → Shows n large (superblock_of p.superblock superblocks).tree.words → IsOpen large n p.order (number_at p.order x) → IsLess small large k x → Shows n small s.tree.words)
           (kept.order p.superblock superblock_lt) r.words
-
-  -- if the root word's bit for order i is 1 after the reservation, it was 1 before, or a half of order i was split off
-  pub reserved_orders : (s : StoredSuperblock) (after : StoredTenant) → Reserved p.order k x (superblock_of p.superblock superblocks) (stored_tenant t tenants) s after
-      → (i : ℕ) → bit_at (slice_index s.tree.words 0) i ≡ 1 → (bit_at (slice_index (superblock_of p.superblock superblocks).tree.words 0) i ≡ 1) ⊎ ((k ≤ i) × (i < p.order))
-  reserved_orders s after r =
-      word_after top k p.order x (λ y. is_available top held taken (p.slot * 2 ^ top + y)) (λ y. is_available top held (changed taken (p.slot * 2 ^ top + x) (Some k)) (p.slot * 2 ^ top + y))
-      found.source.enough found.least.0
-      (less_in_slot (is_available top held taken) (is_available top held (changed taken (p.slot * 2 ^ top + x) (Some k))) top p.slot x k p.order out)
-      (superblock_of p.superblock superblocks).tree.words s.tree.words (mine.shows p.slot p.superblock found.source.at) (reserved_step s after r).shows

@@ -15,6 +15,7 @@ use Rattle.buddy_core.specs.Tree.{Shows}
 use Rattle.buddy_core.specs.Stored.{StoredSuperblock, StoredTenant, superblock_of, stored_tenant, superblock_at, held_by, order_under, taken_by, holding_shown}
 use Rattle.buddy_core.specs.Kept.{IsKept, IsTenantKept, available_in}
 use Rattle.buddy_core.proofs.ContentShown.{bare_of}
+use Rattle.buddy_core.proofs.ExactSummaries.{IsNoted, source_here}
 use Rattle.buddy_core.proofs.TenantChanged.{IsChange}
 use Rattle.buddy_core.proofs.FreeBlockCounts.{count_kept, count_split}
 use Rattle.buddy_core.proofs.TreeSlots.{shows_same}
@@ -157,3 +158,15 @@ module _ (top : ℕ) (superblocks : List StoredSuperblock) (tenants : List Store
 
   pub grant_holding : holding_shown top (set superblocks m s) granted ≡ record (holding_shown top superblocks (stored_tenant t tenants)) { slots = set (stored_tenant t tenants).slots slot (Some m) }
   grant_holding = holding_same top superblocks (stored_tenant t tenants) m slot s granted step
+
+  -- the grant is noted with the new root word of the superblock
+  pub grant_noted : (word : ℕ) → slice_index s.tree.words 0 ≡ word → IsNoted superblocks tenants t m slot s granted word
+  grant_noted word root = record {
+    listed = listed;
+    slots = length-set (stored_tenant t tenants).slots slot (Some m);
+    free = length-set (stored_tenant t tenants).free top (slice_index (stored_tenant t tenants).free top + 1);
+    others = λ v u ne at. unused v u at;
+    same = slot_other;
+    apart = λ u ne at. unused t u (sym (slot_other u ne) ∙ at);
+    here = λ j. source_here superblocks m s (superblock_at granted slot) j word slot_here m_lt root;
+  }

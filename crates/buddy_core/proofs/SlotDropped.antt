@@ -1,9 +1,10 @@
 -- After a slot without a taken frame loses its superblock, its tenant's invariants hold, and contracts see the slot as empty.
-use Rattle.std.proofs.Common.{◌≡◌, ◌⊎◌, inl, inr, refl, sym, ◌∙◌, ap, subst, ℕ, ◌+◌, ◌-◌, ◌*◌, ◌/◌, ◌%◌, ◌^◌, ◌<◌, ◌≤◌, Bool, true, false, Option, Some, None, List, length, get_or, set, arith, length-set}
+use Rattle.std.proofs.Common.{◌≡◌, ◌⊎◌, inl, inr, refl, sym, ◌∙◌, ap, subst, ℕ, ◌+◌, ◌-◌, ◌*◌, ◌/◌, ◌%◌, ◌^◌, ◌<◌, ◌≤◌, ◌==◌, Bool, true, false, Option, Some, None, List, length, get_or, set, arith, length-set}
 use Rattle.std.specs.Prelude.{slice_index, is_some}
 use Rattle.std.proofs.lemmas.List.{get_or-set_same, get_or-set_other}
 use Rattle.std.proofs.lemmas.Option.{none-some, same_Some}
-use Rattle.std.proofs.lemmas.Nat.{pow_pos, div-mul-add}
+use Rattle.std.proofs.lemmas.Nat.{pow_pos, div-mul-add, mod-mul-add}
+use Rattle.std.proofs.lemmas.Nat.Bits.{bit_at-zero}
 use Rattle.std.proofs.Math.Nat.{mul-div_cancel}
 use Rattle.std.proofs.lemmas.Bool.{cases_Bool, cases_eq}
 use Rattle.model_core.specs.Blocks.{block, slot_block, Taken, IsTaken, HasTaken, HasFrame, IsSound}
@@ -15,28 +16,38 @@ use Rattle.model_core.proofs.FreeBlocks.{has_first}
 use Rattle.model_core.proofs.BuddyJoins.{take_back_stays_sound}
 use Rattle.buddy_core.specs.Tree.{Shows}
 use Rattle.buddy_core.specs.Stored.{StoredSuperblock, StoredTenant, bare_superblock, superblock_of, stored_tenant, superblock_at, held_by, order_under, taken_by, holding_shown}
+use Rattle.buddy_core.specs.Summary.{is_source}
 use Rattle.buddy_core.specs.Kept.{IsKept, IsTenantKept, available_in}
 use Rattle.buddy_core.proofs.TenantChanged.{IsChange}
 use Rattle.buddy_core.proofs.ContentShown.{slot_within}
+use Rattle.buddy_core.proofs.ExactSummaries.{IsNoted}
 use Rattle.buddy_core.proofs.FreeBlockCounts.{count_kept, count_split}
 use Rattle.buddy_core.proofs.TreeNumbers.{number_whole}
 use Rattle.buddy_core.proofs.TreeOrders.{orders_clear, orders_whole}
 use Rattle.buddy_core.proofs.TreeSearch.{first_word}
+use Rattle.buddy_core.proofs.TreeSlots.{shows_same}
 use Rattle.buddy_core.proofs.SlotSteps.{IsOneMore, IsSlotStep, slot_out, taken_same, taken_blocks_same, holding_same, shows_other}
 
 module _ (top : ℕ) (held : ℕ → Bool) (taken : Taken) (u : ℕ) (words : List ℕ) (shows : Shows top (λ y. is_available top held taken (u * 2 ^ top + y)) words) where
   in_slot : (x : ℕ) → HasFrame (slot_block top u) x → x / 2 ^ top ≡ u
   in_slot x has = sym (number_is top x) ∙ number_of_frame (u * 2 ^ top) top x (aligned_first u top) has ∙ number_first u top
 
-  -- if the root word is 2 ^ top, no frame of the slot is taken
-  pub quiet : slice_index words 0 ≡ 2 ^ top → HasTaken taken (slot_block top u) → ⊥
-  quiet root (x, has, is) =
-      let clear = orders_whole (λ y. is_available top held taken (u * 2 ^ top + y)) top 0 (sym (first_word _ top words shows) ∙ root) in
-      let y = x - u * 2 ^ top in
-      let at : u * 2 ^ top + y ≡ x = omega (arith, has.0) in
-      let small : y < 2 ^ top = omega (arith, has.1) in
-      let passes = clear_at (λ y. is_available top held taken (u * 2 ^ top + y)) top y (ap (is_clear (λ y. is_available top held taken (u * 2 ^ top + y)) top) (number_whole top y small) ∙ clear) in
-      (available_tells top held taken x (ap (is_available top held taken) (sym at) ∙ passes)).1 is
+  -- if the root word is 2 ^ top, every frame of the slot is available
+  module _ (root : slice_index words 0 ≡ 2 ^ top) where
+    available : (y : ℕ) → y < 2 ^ top → is_available top held taken (u * 2 ^ top + y) ≡ true
+    available y small =
+        let clear = orders_whole (λ y. is_available top held taken (u * 2 ^ top + y)) top 0 (sym (first_word _ top words shows) ∙ root) in
+        clear_at (λ y. is_available top held taken (u * 2 ^ top + y)) top y (ap (is_clear (λ y. is_available top held taken (u * 2 ^ top + y)) top) (number_whole top y small) ∙ clear)
+
+    pub all_available : Shows top (λ _. true) words
+    all_available = shows_same _ (λ _. true) top words shows (λ y lt. available y lt)
+
+    -- no frame of the slot is taken
+    pub quiet : HasTaken taken (slot_block top u) → ⊥
+    quiet (x, has, is) =
+        let y = x - u * 2 ^ top in
+        let at : u * 2 ^ top + y ≡ x = omega (arith, has.0) in
+        (available_tells top held taken x (ap (is_available top held taken) (sym at) ∙ available y (omega (arith, has.1)))).1 is
 
   -- if the slot is held and its root word is not 2 ^ top, some frame of the slot is taken
   pub busy : held u ≡ true → (slice_index words 0 ≡ 2 ^ top → ⊥) → HasTaken taken (slot_block top u)
@@ -88,6 +99,15 @@ module _ (top : ℕ) (superblocks : List StoredSuperblock) (tenants : List Store
   begins_none : (g : ℕ) → g / 2 ^ top ≡ slot → (o : Option ℕ) → taken_by top superblocks (stored_tenant t tenants) g ≡ o → o ≡ None
   begins_none g e None at = refl
   begins_none g e (Some k) at = absurd (untaken g e (g, k, at, has_first g k))
+
+  -- no order is stored for a frame of the superblock
+  pub no_order : (x : ℕ) → x < 2 ^ top → get_or (superblock_of m superblocks).orders x None ≡ None
+  no_order x lt =
+      let number = div-mul-add slot (2 ^ top) x lt in
+      let inside = mod-mul-add slot (2 ^ top) x lt in
+      sym (ap (λ n. get_or (superblock_of m superblocks).orders n None) inside)
+      ∙ sym (ap (λ o. order_under superblocks o ((slot * 2 ^ top + x) % 2 ^ top)) (ap (superblock_at (stored_tenant t tenants)) number ∙ here))
+      ∙ begins_none (slot * 2 ^ top + x) number _ refl
 
   step : IsSlotStep top superblocks (stored_tenant t tenants) m slot (bare_superblock top) dropped
   step = record {
@@ -193,3 +213,15 @@ module _ (top : ℕ) (superblocks : List StoredSuperblock) (tenants : List Store
 
   pub drop_holding : holding_shown top (set superblocks m (bare_superblock top)) dropped ≡ record (holding_shown top superblocks (stored_tenant t tenants)) { slots = set (stored_tenant t tenants).slots slot None }
   drop_holding = holding_same top superblocks (stored_tenant t tenants) m slot (bare_superblock top) dropped step
+
+  -- the take-back is noted with the word of an empty slot
+  pub drop_noted : IsNoted superblocks tenants t m slot (bare_superblock top) dropped 0
+  drop_noted = record {
+    listed = listed;
+    slots = length-set (stored_tenant t tenants).slots slot None;
+    free = length-set (stored_tenant t tenants).free top (slice_index (stored_tenant t tenants).free top - 1);
+    others = λ v u ne at. ne (kept.apart v u t slot m at here).0;
+    same = slot_other;
+    apart = λ u ne at. ne (kept.apart t u t slot m (sym (slot_other u ne) ∙ at) here).1;
+    here = λ j. ap (is_source (set superblocks m (bare_superblock top)) j) slot_here ∙ sym (ap (λ n. n == 1) (bit_at-zero j));
+  }

@@ -1,5 +1,5 @@
 -- After a slot moves to a superblock that was in no slot, all invariants hold. The two superblocks swap their stored states.
-use Rattle.std.proofs.Common.{◌≡◌, ◌⊎◌, inl, inr, refl, sym, ◌∙◌, ap, ap₂, subst, ℕ, ◌*◌, ◌^◌, ◌<◌, ◌≤◌, Some, List, length, get_or, set, map, length-set}
+use Rattle.std.proofs.Common.{◌≡◌, ◌⊎◌, inl, inr, refl, sym, ◌∙◌, ap, ap₂, subst, ℕ, ◌*◌, ◌^◌, ◌<◌, ◌≤◌, ◌==◌, Bool, Some, List, length, get_or, set, map, length-set}
 use Rattle.std.specs.Int.{bit_at}
 use Rattle.std.specs.Prelude.{is_some}
 use Rattle.std.specs.List.{SwappedAt, range_with_len}
@@ -10,11 +10,10 @@ use Rattle.model_core.specs.declared.limits.TheConstants.{MAX_SUPERBLOCKS, MAX_T
 use Rattle.model_core.specs.Blocks.{Taken}
 use Rattle.buddy_core.specs.Content.{Holding, with_holding, with_slot}
 use Rattle.buddy_core.specs.Stored.{StoredSuperblock, StoredTenant, bare_superblock, superblock_of, stored_tenant, superblock_at, held_by, holding_shown, content_shown}
-use Rattle.buddy_core.specs.Roots.{HasBit}
-use Rattle.buddy_core.specs.Summary.{AreBounded}
+use Rattle.buddy_core.specs.Summary.{is_source, AreExact}
 use Rattle.buddy_core.specs.Kept.{IsKept, IsTenantKept}
 use Rattle.buddy_core.proofs.ContentShown.{slot_within, StandsAsBefore, taken_as_before, blank_of, bare_of, content_replaced}
-use Rattle.buddy_core.proofs.SummaryBounds.{bounded_still}
+use Rattle.buddy_core.proofs.ExactSummaries.{exact_kept, summary_same, source_stays}
 use Rattle.buddy_core.proofs.TenantChanged.{tenant_stays, tenant_kept_as_before}
 
 module _ (top : ℕ) (superblocks : List StoredSuperblock) (tenants : List StoredTenant) (kept : IsKept top superblocks tenants) (t : ℕ) (listed : t < length tenants) (slot from m : ℕ)
@@ -121,14 +120,20 @@ module _ (top : ℕ) (superblocks : List StoredSuperblock) (tenants : List Store
       shows : Taken → ℕ → Holding
       shows taken n = record { slots = set (stored_tenant t tenants).slots slot (Some m); taken = map taken (range_with_len 0 (n * 2 ^ top)) }
 
-  -- the superblock in each slot has the same free blocks as before, so the summaries still bound the free blocks
-  pub move_bounded : (summaries : List (List ℕ)) → AreBounded superblocks tenants summaries → AreBounded after (set tenants t moved) summaries
-  move_bounded summaries bounded = bounded_still bounded after (set tenants t moved) (length-set tenants t moved) (λ v u i j at bit. go v u i j at bit (cases_eq v t))
+  -- the superblock in each slot has the same free blocks as before, so the summaries are still exact
+  pub move_exact : (summaries : List (List (List Bool))) → AreExact superblocks tenants summaries → AreExact after (set tenants t moved) summaries
+  move_exact summaries exact =
+      exact_kept superblocks after tenants summaries exact t moved listed
+      (summary_same superblocks after (stored_tenant t tenants) moved (sym (length-set (stored_tenant t tenants).slots slot (Some m))) refl (λ j u. mine_same j u (cases_eq u slot)))
+      (λ v ne lt.
+      summary_same superblocks after (stored_tenant v tenants) (stored_tenant v tenants) refl refl (λ j u.
+      source_stays superblocks after (superblock_at (stored_tenant v tenants) u) j (λ i at. other_slot v u i (λ both. ne both.0) at)))
     where
-      go : (v u i j : ℕ) → superblock_at (stored_tenant v (set tenants t moved)) u ≡ Some i → HasBit after i j → (v ≡ t) ⊎ (v ≡ t → ⊥) → (was : ℕ) × (superblock_at (stored_tenant v tenants) u ≡ Some was) × HasBit superblocks was j
-      go v u i j at bit (inl e) =
-          let before = same u i (ap (λ r. superblock_at r u) (sym (tenant_same v e)) ∙ at) (cases_eq u slot) in
-          (before.0, ap (λ n. superblock_at (stored_tenant n tenants) u) e ∙ before.1, ap (λ (z : StoredSuperblock). bit_at (get_or z.tree.words 0 0) j) (sym before.2) ∙ bit)
-      go v u i j at bit (inr ne) =
-          let before = ap (λ r. superblock_at r u) (sym (tenant_other v ne)) ∙ at in
-          (i, before, ap (λ (z : StoredSuperblock). bit_at (get_or z.tree.words 0 0) j) (sym (other_slot v u i (λ both. ne both.0) before)) ∙ bit)
+      mine_same : (j u : ℕ) → (u ≡ slot) ⊎ (u ≡ slot → ⊥) → is_source superblocks j (superblock_at (stored_tenant t tenants) u) ≡ is_source after j (superblock_at moved u)
+      mine_same j u (inl e) =
+          ap (is_source superblocks j) (ap (superblock_at (stored_tenant t tenants)) e ∙ here)
+          ∙ ap (λ (z : StoredSuperblock). bit_at (get_or z.tree.words 0 0) j == 1) (sym (swapped.1 bare_of))
+          ∙ ap (is_source after j) (sym (ap (superblock_at moved) e ∙ slot_here))
+      mine_same j u (inr ne) =
+          source_stays superblocks after (superblock_at (stored_tenant t tenants) u) j (λ i at. other_slot t u i (λ both. ne both.1) at)
+          ∙ ap (is_source after j) (sym (slot_other u ne))

@@ -1,18 +1,18 @@
 -- If one tenant loses all that it holds, `IsKept` stays true.
-use Rattle.std.proofs.Common.{◌≡◌, ◌⊎◌, inl, inr, refl, sym, ◌∙◌, ap, subst, ℕ, zero, suc, ◌+◌, ◌<◌, ◌≤◌, Option, Some, None, List, length, get_or, set, arith, length-set}
+use Rattle.std.proofs.Common.{◌≡◌, ◌⊎◌, inl, inr, refl, sym, ◌∙◌, ap, subst, ℕ, zero, suc, ◌+◌, ◌-◌, ◌^◌, ◌<◌, ◌≤◌, ◌==◌, Bool, false, Option, Some, None, List, [], length, get_or, set, arith, length-set}
 use Rattle.std.specs.Int.{bit_at}
-use Rattle.std.proofs.lemmas.List.{get_or-set_same, get_or-set_other}
+use Rattle.std.proofs.lemmas.List.{get_or-set_same, get_or-set_other, length-replicate, set-get_or}
+use Rattle.std.proofs.lemmas.Nat.Bits.{bit_at-zero}
 use Rattle.std.proofs.lemmas.Option.{none-some, same_Some}
 use Rattle.std.proofs.lemmas.Bool.{cases_lt, cases_eq}
 use Rattle.model_core.specs.declared.limits.TheConstants.{MAX_SUPERBLOCKS, MAX_TENANTS}
 use Rattle.model_core.proofs.Lists.{everywhere}
 use Rattle.buddy_core.specs.Content.{with_holding, nothing_held}
 use Rattle.buddy_core.specs.Stored.{StoredSuperblock, StoredTenant, bare_superblock, bare_tenant, superblock_of, stored_tenant, superblock_at, taken_by, content_shown}
-use Rattle.buddy_core.specs.Roots.{HasBit}
-use Rattle.buddy_core.specs.Summary.{AreBounded}
+use Rattle.buddy_core.specs.Summary.{is_source, AreExact}
 use Rattle.buddy_core.specs.Kept.{IsKept, IsTenantKept}
 use Rattle.buddy_core.proofs.ContentShown.{taken_as_before, blank_of, bare_of, content_replaced, slot_within}
-use Rattle.buddy_core.proofs.SummaryBounds.{bounded_still}
+use Rattle.buddy_core.proofs.ExactSummaries.{IsNoted, source_here, exact_kept, exact_noted, summary_same}
 use Rattle.buddy_core.proofs.TenantChanged.{tenant_stays}
 use Rattle.buddy_core.proofs.NothingHeld.{blank_kept, blank_holding}
 
@@ -61,10 +61,17 @@ cleared_more top before after tenant n m s at lt blank apart c = record {
             let last : w ≡ n = omega arith in
             absurd (ne (same_Some i m (sym there ∙ ap (superblock_at tenant) last ∙ at)))
 
--- the superblock in slot n, which is cleared next, still has order `top`
-pub next_order : (top : ℕ) (before after : List StoredSuperblock) (tenant : StoredTenant) (n m : ℕ) → superblock_at tenant n ≡ Some m → (superblock_of m before).tree.order ≡ top
-    → ((w v i : ℕ) → superblock_at tenant w ≡ Some i → superblock_at tenant v ≡ Some i → w ≡ v) → Cleared top before after tenant n → (superblock_of m after).tree.order ≡ top
-next_order top before after tenant n m at order apart c = ap (λ (z : StoredSuperblock). z.tree.order) (c.stays m (λ w lt there. let e = apart w n m there at in omega arith)) ∙ order
+-- the superblock in slot n, which is cleared next, is still as it was
+pub next_same : (top : ℕ) (before after : List StoredSuperblock) (tenant : StoredTenant) (n m : ℕ) → superblock_at tenant n ≡ Some m
+    → ((w v i : ℕ) → superblock_at tenant w ≡ Some i → superblock_at tenant v ≡ Some i → w ≡ v) → Cleared top before after tenant n → superblock_of m after ≡ superblock_of m before
+next_same top before after tenant n m at apart c = c.stays m (λ w lt there. let e = apart w n m there at in omega arith)
+
+-- a superblock that is blank has no free block
+pub bare_source : (top : ℕ) (superblocks : List StoredSuperblock) (m j : ℕ) → superblock_of m superblocks ≡ bare_superblock top → is_source superblocks j (Some m) ≡ false
+bare_source top superblocks m j blank =
+    ap (λ (z : StoredSuperblock). bit_at (get_or z.tree.words 0 0) j == 1) blank
+    ∙ ap (λ n. bit_at n j == 1) (everywhere 0 (2 ^ (top + 1) - 1) 0)
+    ∙ ap (λ n. n == 1) (bit_at-zero j)
 
 -- either one of the first n slots has superblock i, or none of them has
 under : (tenant : StoredTenant) (i n : ℕ) → ((w : ℕ) × (w < n) × (superblock_at tenant w ≡ Some i)) ⊎ ((w : ℕ) → w < n → superblock_at tenant w ≡ Some i → ⊥)
@@ -154,13 +161,33 @@ module _ (top : ℕ) (superblocks : List StoredSuperblock) (tenants : List Store
   reset_shown = content_replaced top superblocks tenants t after (bare_tenant top (length superblocks)) (nothing_held top (length superblocks)) c.size
       (λ v ne lt. other_taken v ne) (blank_holding top after (length superblocks))
 
-  -- after the reset, no slot has a free block of an order of which it had none, so the summaries still bound the free blocks
-  pub reset_bounded : (summaries : List (List ℕ)) → AreBounded superblocks tenants summaries → AreBounded after (set tenants t (bare_tenant top (length superblocks))) summaries
-  reset_bounded summaries bounded = bounded_still bounded after (set tenants t (bare_tenant top (length superblocks))) (length-set tenants t (bare_tenant top (length superblocks))) (λ v u i j at bit. go v u i j at bit (cases_eq v t))
+  -- after the superblocks in its slots are cleared, the tenant's sets are empty, as they have to be once it holds nothing
+  pub reset_exact : (summaries : List (List (List Bool))) → AreExact after tenants summaries → AreExact after (set tenants t (bare_tenant top (length superblocks))) summaries
+  reset_exact summaries exact =
+      exact_kept after after tenants summaries exact t (bare_tenant top (length superblocks)) listed
+      (summary_same after after (stored_tenant t tenants) (bare_tenant top (length superblocks)) (mine.sizes.slots ∙ sym (length-replicate {A = Option ℕ} (length superblocks) None)) (mine.sizes.free ∙ sym (length-replicate {A = ℕ} (top + 1) 0))
+      (λ j u. none_in j u (superblock_at (stored_tenant t tenants) u) refl ∙ sym (ap (is_source after j) (everywhere None (length superblocks) u))))
+      (λ v ne lt. refl)
     where
-      go : (v u i j : ℕ) → superblock_at (stored_tenant v (set tenants t (bare_tenant top (length superblocks)))) u ≡ Some i → HasBit after i j → (v ≡ t) ⊎ (v ≡ t → ⊥)
-          → (was : ℕ) × (superblock_at (stored_tenant v tenants) u ≡ Some was) × HasBit superblocks was j
-      go v u i j at bit (inl e) = absurd (none_here v u i e at)
-      go v u i j at bit (inr ne) =
-          let before = ap (λ r. superblock_at r u) (sym (tenant_other v ne)) ∙ at in
-          (i, before, ap (λ (z : StoredSuperblock). bit_at (get_or z.tree.words 0 0) j) (sym (other_superblock v u i ne before)) ∙ bit)
+      none_in : (j u : ℕ) (o : Option ℕ) → superblock_at (stored_tenant t tenants) u ≡ o → is_source after j o ≡ false
+      none_in j u None at = refl
+      none_in j u (Some m) at = bare_source top after m j (c.gone u m (slot_lt u m at) at)
+
+-- when the superblock in a slot is cleared, it is noted with the word of an empty slot
+pub cleared_exact : (top : ℕ) (superblocks after : List StoredSuperblock) (tenants : List StoredTenant) (summaries : List (List (List Bool))) → IsKept top superblocks tenants → AreExact after tenants summaries
+    → (t slot m : ℕ) (s : StoredSuperblock) → t < length tenants → superblock_at (stored_tenant t tenants) slot ≡ Some m → m < length after → s ≡ bare_superblock top
+    → (before sets : List (List Bool)) → before ≡ get_or summaries t before → length sets ≡ length before → ((j : ℕ) → get_or sets j [] ≡ set (get_or before j []) slot (bit_at 0 j == 1)) → AreExact (set after m s) tenants (set summaries t sets)
+cleared_exact top superblocks after tenants summaries kept exact t slot m s listed at lt blank before sets read size written =
+    subst (λ (ts : List StoredTenant). AreExact (set after m s) ts (set summaries t sets)) (set-get_or tenants t blank_of)
+    (exact_noted after tenants summaries exact t m slot s (stored_tenant t tenants) 0 noted before sets read size written)
+  where
+    noted : IsNoted after tenants t m slot s (stored_tenant t tenants) 0
+    noted = record {
+      listed = listed;
+      slots = refl;
+      free = refl;
+      others = λ v u ne there. ne (kept.apart v u t slot m there at).0;
+      same = λ u ne. refl;
+      apart = λ u ne there. ne (kept.apart t u t slot m there at).1;
+      here = λ j. source_here after m s (superblock_at (stored_tenant t tenants) slot) j 0 at lt (ap (λ (z : StoredSuperblock). get_or z.tree.words 0 0) blank ∙ everywhere 0 (2 ^ (top + 1) - 1) 0);
+    }

@@ -1,10 +1,10 @@
 -- The words of a tree after the first write of a reserve or a release, and after each step up from there. `old` and `new` say
 -- which frames are available before and after the change. A block is clear if all its frames are available.
-use Rattle.std.proofs.Common.{◌≡◌, ℕ, zero, suc, ◌+◌, ◌-◌, ◌*◌, ◌/◌, ◌^◌, ◌<◌, ◌≤◌, Bool, true, false, cond, List, length, get_or, set, length-set, ◌⊎◌, inl, inr, refl, sym, ap, ap₂, subst, ◌∙◌, arith}
+use Rattle.std.proofs.Common.{◌≡◌, ℕ, zero, suc, ◌+◌, ◌-◌, ◌*◌, ◌/◌, ◌^◌, ◌<◌, ◌≤◌, Bool, true, false, cond, List, length, get_or, set, length-set, ◌⊎◌, inl, inr, refl, sym, ap, ap₂, subst, ◌∙◌, add-one, arith}
 use Rattle.std.specs.Prelude.{bit_or}
-use Rattle.std.proofs.lemmas.Bool.{and_from, both_ways, cases_eq, cond-true, cond-false, false_from_ne_true}
-use Rattle.std.proofs.lemmas.List.{get_or-replicate, length-replicate}
-use Rattle.std.proofs.lemmas.Nat.{pow_pos}
+use Rattle.std.proofs.lemmas.Bool.{and_from, both_ways, cases_eq, cases_lt, cond-true, cond-false, false_from_ne_true}
+use Rattle.std.proofs.lemmas.List.{get_or-replicate, get_or_default, length-replicate, same_lists}
+use Rattle.std.proofs.lemmas.Nat.{pow_pos, pow_below}
 use Rattle.std.proofs.Math.Nat.{pow-suc}
 use Rattle.model_core.specs.Numbered.{number_at, is_clear, IsOpen}
 use Rattle.buddy_core.specs.Stored.{bare_tree}
@@ -295,3 +295,41 @@ shows_all top words n bare e =
         word_at-set_other words 0 n (suc d) q (λ x. omega (arith, pow-suc 2 d, pow_pos d)) ∙ shows.each (suc d) k q s b
         ∙ zero_either _ _ (orders_none (λ _. false) k q (λ x h. refl))
         ∙ sym (word_inside (λ _. true) top k q (omega arith) ∙ cond-true _ 0 _ (clear_from (λ _. true) (suc k) (q / 2) (λ x h. refl)))
+
+-- each number below 2 ^ (top + 1), except 0, is the node of a block
+node_place : (top n : ℕ) → 0 < n → n < 2 ^ (top + 1) → (d : ℕ) × (q : ℕ) × (d ≤ top) × (q < 2 ^ d) × (n ≡ 2 ^ d + q)
+node_place zero n some small = (0, 0, omega arith, omega arith, omega arith)
+node_place (suc top) n some small = elim (cases_lt n (2 ^ (top + 1))) [
+  | inl lt ↦ let (d, q, le, within, e) = node_place top n some lt in (d, q, omega arith, within, e)
+  | inr ge ↦ (suc top, n - 2 ^ suc top, omega arith, omega (arith, pow-suc 2 (suc top), ap (λ i. 2 ^ i) (add-one top), ap (λ i. 2 ^ i) (add-one (suc top))), omega (arith, ap (λ i. 2 ^ i) (add-one top)))
+]
+
+-- the available frames determine the words
+words_shown : (top : ℕ) (ok : ℕ → Bool) (xs ys : List ℕ) → Shows top ok xs → Shows top ok ys → xs ≡ ys
+words_shown top ok xs ys a b =
+    let size = a.size in
+    let size' = b.size in
+    same_lists xs ys (omega arith) (λ i v lt.
+    let (d, q, le, within, e) = node_place top (i + 1) (omega arith) (omega arith) in
+    let at : i ≡ 2 ^ d + q - 1 = omega arith in
+    let depth : d + (top - d) ≡ top = omega arith in
+    get_or_default xs i v 0 lt
+    ∙ ap (λ n. get_or xs n 0) at ∙ a.each d (top - d) q depth within
+    ∙ sym (b.each d (top - d) q depth within) ∙ sym (ap (λ n. get_or ys n 0) at)
+    ∙ get_or_default ys i 0 v (omega arith))
+
+-- if every frame of a superblock is available, the words with 0 as the root word are those of a bare tree
+pub bare_again : (top : ℕ) (words : List ℕ) → Shows top (λ _. true) words → set words 0 0 ≡ (bare_tree top).words
+bare_again top words shows =
+    let len = length-set words 0 0 in
+    let size = shows.size in
+    words_shown top (λ _. false) (set words 0 0) (bare_tree top).words (record {
+      size = omega arith;
+      each = λ d k q s b. go d k q s b ∙ sym (zero_either _ _ (orders_none (λ _. false) k q (λ x h. refl)));
+    }) (shows_none top)
+  where
+    go : (d k q : ℕ) → d + k ≡ top → q < 2 ^ d → word_at (set words 0 0) d q ≡ 0
+    go zero k q s b = let size = shows.size in let some = pow_below 0 (top + 1) (omega arith) in word_at-set_same words 0 0 0 q (omega arith) (omega arith)
+    go (suc d) k q s b =
+        word_at-set_other words 0 0 (suc d) q (λ x. omega (arith, pow-suc 2 d, pow_pos d)) ∙ shows.each (suc d) k q s b
+        ∙ word_inside (λ _. true) top k q (omega arith) ∙ cond-true _ 0 _ (clear_from (λ _. true) (suc k) (q / 2) (λ x h. refl))

@@ -6,3 +6,4 @@ pub mod Kept
 pub mod Roots
 pub mod Counts
 pub mod Summary
+pub mod SummaryWords

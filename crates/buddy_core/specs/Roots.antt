@@ -1,5 +1,5 @@
 -- The orders of the free blocks in the superblocks of one tenant, according to the root words of their trees.
-use Rattle.std.specs.Prelude.{◌≡◌, ◌↔◌, ℕ, ◌+◌, ◌<◌, ◌≤◌, Option, Some, None, List, length, slice_index, slice_index_or}
+use Rattle.std.specs.Prelude.{◌≡◌, ◌↔◌, ℕ, ◌+◌, ◌<◌, ◌≤◌, Option, Some, None, is_some, List, length, slice_index, slice_index_or, count_by}
 use Rattle.std.specs.Int.{bit_at}
 use Rattle.model_core.specs.declared.limits.TheConstants.{MAX_ORDER, MAX_SUPERBLOCKS}
 use Rattle.buddy_core.specs.declared.find.Source.{Source}
@@ -10,10 +10,11 @@ pub record IsEnd (slots : List (Option ℕ)) (end : ℕ) : Type 0 where
   pub within : end ≤ length slots
   pub rest : (u : ℕ) → end ≤ u → slice_index_or slots u None ≡ None
 
--- A tenant has at most MAX_SUPERBLOCKS slots, and neither slot `end` nor a later slot has a superblock. For each of at most
--- MAX_ORDER + 1 orders, the tenant has a count of free blocks and a count of taken blocks.
-pub record IsStoredTenant (slots : List (Option ℕ)) (end : ℕ) (free taken : List ℕ) : Type 0 where
+-- A tenant has at most MAX_SUPERBLOCKS slots, `held` of them have a superblock, and neither slot `end` nor a later slot has one.
+-- For each of at most MAX_ORDER + 1 orders, the tenant has a count of free blocks and a count of taken blocks.
+pub record IsStoredTenant (slots : List (Option ℕ)) (end held : ℕ) (free taken : List ℕ) : Type 0 where
   pub ends : IsEnd slots end
+  pub counted : held ≡ count_by is_some slots
   pub few : length slots ≤ MAX_SUPERBLOCKS
   pub orders : length free ≤ MAX_ORDER + 1
   pub alike : length taken ≡ length free
@@ -29,10 +30,6 @@ HasOrder superblocks slots j = (u m : ℕ) × (slice_index_or slots u None ≡ S
 -- the tenant's count of free blocks of an order is above 0 if and only if one of its superblocks has a free block of that order
 abbrev pub IsCounted : List StoredSuperblock → StoredTenant → Type 0
 IsCounted superblocks tenant = (j : ℕ) → (0 < slice_index tenant.free j) ↔ HasOrder superblocks tenant.slots j
-
--- the number of each superblock in a slot is below the number of superblocks
-abbrev pub IsThere : List StoredSuperblock → List (Option ℕ) → Type 0
-IsThere superblocks slots = (u m : ℕ) → slice_index_or slots u None ≡ Some m → m < length superblocks
 
 -- no superblock in a slot has a free block of order k or more
 abbrev pub IsWithoutOrder : List StoredSuperblock → List (Option ℕ) → ℕ → Type 0

@@ -62,7 +62,7 @@ pub struct Buddy {
     order: u8,
     superblocks: Vec<Superblock>,
     tenants: Vec<Tenant>,
-    // For each tenant, the groups of slots that a search has to visit.
+    // For each tenant and order, the slots in which a search finds a free block.
     summaries: Vec<Summary>,
 }
 
@@ -73,12 +73,12 @@ impl Model for Buddy {
 
     ghost use Rattle.buddy_core.specs.Stored.{content_shown};
     ghost use Rattle.buddy_core.specs.Kept.{IsKept};
-    ghost use Rattle.buddy_core.specs.Summary.{AreBounded};
+    ghost use Rattle.buddy_core.specs.Summary.{AreExact};
 
     ghost view = { λ a. content_shown a.order a.superblocks.items a.tenants.items };
 
     ghost invariant = { λ a. IsKept a.order a.superblocks.items a.tenants.items
-        × AreBounded a.superblocks.items a.tenants.items a.summaries.items };
+        × AreExact a.superblocks.items a.tenants.items a.summaries.items };
 }
 
 impl Buddy {
@@ -90,13 +90,13 @@ impl Buddy {
         requires tenants { tenants ≤ MAX_TENANTS }
         ensures { IfOk result (λ b. b ≡ empty_buddy order superblocks tenants) }
     {
-        let mut all_tenants = Vec::new(alloc);
-        let mut summaries = Vec::new(alloc);
+        let mut all_tenants = Vec::with_capacity(alloc, usize::from(tenants))?;
+        let mut summaries = Vec::with_capacity(alloc, usize::from(tenants))?;
         for _tenant in 0..tenants {
             all_tenants.push(Tenant::new(alloc, order, superblocks)?)?;
-            summaries.push(Summary::new())?;
+            summaries.push(Summary::new(alloc, order, superblocks)?)?;
         }
-        let mut all_superblocks = Vec::new(alloc);
+        let mut all_superblocks = Vec::with_capacity(alloc, usize::from(superblocks))?;
         for _superblock in 0..superblocks {
             all_superblocks.push(Superblock::new(alloc, order)?)?;
         }
@@ -148,8 +148,8 @@ impl Buddy {
         ensures { self.new ≡ with_holding t (with_slot slot m (holding_of t self.old)) self.old }
     {
         let order = self.order;
-        self.superblocks[m as usize].fill();
-        self.summaries[t as usize].note(u32::from(slot), order);
+        self.superblocks[m as usize].fill_bare();
+        self.summaries[t as usize].note(slot, 0, 1 << order);
         self.tenants[t as usize].add_slot(slot, m, order);
     }
 
@@ -170,7 +170,8 @@ impl Buddy {
         if self.superblocks[m as usize].tree().root() != 1 << order {
             return Err(SlotBusy);
         }
-        self.superblocks[m as usize].clear();
+        self.superblocks[m as usize].empty_whole();
+        self.summaries[t as usize].note(slot, 1 << order, 0);
         self.tenants[t as usize].drop_slot(slot, order);
         Ok(())
     }
@@ -198,7 +199,9 @@ impl Buddy {
         let end = self.slots_end(t);
         for slot in 0..end {
             if let Some(m) = self.tenants[t as usize].superblock_at(u32::from(slot)) {
+                let root = self.superblocks[m as usize].tree().root();
                 self.superblocks[m as usize].clear();
+                self.summaries[t as usize].note(slot, root, 0);
             }
         }
         self.tenants[t as usize].clear();
@@ -238,16 +241,16 @@ impl Buddy {
             × (self.new ≡ with_holding t (with_block b.first k (holding_of t self.old)) self.old))) }
         ensures under { IfSome result (λ b. superblock_at (holding_of t self.old) (b.first / 2 ^ self.old.top) ≡ Some b.superblock) }
     {
-        let summaries = &mut self.summaries[t as usize];
-        let source = find::find(&self.superblocks, &self.tenants[t as usize], summaries, k)?;
+        let summary = &mut self.summaries[t as usize];
+        let source = find::find(&self.superblocks, &self.tenants[t as usize], summary, k)?;
         let superblock = &mut self.superblocks[source.superblock as usize];
+        let old = superblock.tree().root();
         let first = superblock.tree().search(source.order);
         superblock.reserve_at(first, source.order, k);
-        let slot = u32::from(source.slot);
-        summaries.note_halves(slot, k, source.order);
         self.tenants[t as usize].count_reserved(source.order, k);
+        summary.note(source.slot, old, superblock.tree().root());
         Some(ReservedBlock {
-            first: (slot << self.order) + first,
+            first: (u32::from(source.slot) << self.order) + first,
             superblock: source.superblock,
         })
     }
@@ -273,12 +276,14 @@ impl Buddy {
         ensures refused { IfNone result (self.new ≡ self.old) }
         ensures done { OnSome result (self.new ≡ with_holding t (without_block frame (holding_of t self.old)) self.old) }
     {
-        let slot = frame >> self.order;
+        let slot = (frame >> self.order) as u16;
         let first = frame % (1 << self.order);
         let k = self.superblocks[m as usize].order_at(first)?;
-        let joined = self.superblocks[m as usize].release_at(first, k);
+        let superblock = &mut self.superblocks[m as usize];
+        let old = superblock.tree().root();
+        let joined = superblock.release_at(first, k);
         self.tenants[t as usize].count_released(k, joined);
-        self.summaries[t as usize].note(slot, joined);
+        self.summaries[t as usize].note(slot, old, superblock.tree().root());
         Some(k)
     }
 

@@ -1,99 +1,107 @@
-//! A tenant's summary: the groups of its slots in which a search may find a free block.
+//! A tenant's summary: for each order, the slots whose superblock has a free block of this order.
 
-ghost use Rattle.std.specs.Prelude.{◌≡◌, ◌≢◌, ℕ, ◌/◌, ◌<◌, ◌≤◌, replicate, slice_index, MatchOption};
+ghost use Rattle.std.specs.Prelude.{◌≡◌, ℕ, ◌+◌, ◌<◌, ◌≤◌, ◌==◌, Bool, false, [], length, position, replicate, slice_index_or, slice_set, IfOk};
 ghost use Rattle.std.specs.Int.{bit_at};
-ghost use Rattle.model_core.specs.declared.limits.TheConstants.{MAX_SUPERBLOCKS};
+ghost use Rattle.model_core.specs.declared.limits.TheConstants.{MAX_ORDER, MAX_SUPERBLOCKS};
+ghost use Rattle.buddy_core.specs.SummaryWords.{flipped};
 
+use std::alloc::{AllocError, Global};
 use std::marker::Model;
 
-/// The number of consecutive slots in a group.
-pub const GROUP_SLOTS: usize = 8;
+/// The number of slots for which a word has a bit.
+const WORD_BITS: u16 = 64;
 
-/// The number of groups of a tenant's slots. Each group has one bit in a word.
-pub const GROUPS: usize = 32;
+/// The number of words in a row, which has a word for each order. It is a power of two, so a word is found by a shift.
+const ROW: usize = 16;
 
-/// The number of words in a summary, one for each order. Every order is below this number.
-pub const ORDERS: usize = 16;
-
-/// For each order, one bit for each group of a tenant's slots: 1 if the group may have a free block of this order. After the
-/// group's last free block of the order is taken, the bit stays 1 until a search of the group finds none.
+/// For each order, the set of the slots of one tenant whose superblock has a free block of this order.
+///
+/// The words of all sets are stored together, so a change of one slot mostly writes to one cache line of them.
 #[derive(Debug, Drop)]
 pub struct Summary {
-    words: [u32; ORDERS],
+    // The number of slots.
+    slots: u16,
+    // For each order: bit g is 1 if word g of the order's set is not 0.
+    filled: Vec<u64>,
+    // Row g has word g of each set, which says of the slots from 64 g on which of them are in.
+    words: Vec<u64>,
 }
 
 impl Model for Summary {
-    ghost use Rattle.std.specs.Prelude.{ℕ, List};
+    ghost use Rattle.std.specs.Prelude.{List, Bool};
+    ghost use Rattle.buddy_core.specs.SummaryWords.{sets_of, IsSummary};
 
-    ghost Value = { List ℕ };
+    ghost Value = { List (List Bool) };
 
-    ghost view = { λ a. a.words };
-}
+    ghost view = { λ s. sets_of s.slots s.filled.items s.words.items };
 
-/// Returns the index of the lowest bit that is 1.
-fn lowest(word: u32) -> usize
-    requires { word ≢ 0 }
-    ensures bound { result < 32 }
-    ensures set { bit_at word result ≡ 1 }
-    ensures below { (b : ℕ) → b < result → bit_at word b ≡ 1 → ⊥ }
-{
-    word.trailing_zeros() as usize
+    ghost invariant = { λ s. IsSummary s.slots s.filled.items s.words.items };
 }
 
 impl Summary {
-    /// Returns a summary in which no group has a free block.
-    pub fn new() -> Summary
-        ensures { result ≡ replicate ORDERS 0 }
+    /// Makes the summary of a tenant that holds nothing. Returns `AllocError` if the allocator refuses memory.
+    pub fn new(alloc: Global, order: u8, superblocks: u16) -> Result<Summary, AllocError>
+        requires order { order ≤ MAX_ORDER }
+        requires superblocks { superblocks ≤ MAX_SUPERBLOCKS }
+        ensures { IfOk result (λ s. s ≡ replicate (order + 1) (replicate superblocks false)) }
     {
-        Summary { words: [0; ORDERS] }
+        let rows = usize::from((superblocks + WORD_BITS - 1) / WORD_BITS);
+        let filled = vec![in alloc; 0; usize::from(order) + 1]?;
+        let words = vec![in alloc; 0; rows * ROW]?;
+        Ok(Summary {
+            slots: superblocks,
+            filled,
+            words,
+        })
     }
 
-    /// Returns the first group that may have a free block of `order`, or `None` if no group may.
-    pub fn first(&self, order: u8) -> Option<usize>
-        requires { order < ORDERS }
-        ensures { MatchOption result ((b : ℕ) → bit_at (slice_index self.now order) b ≡ 1 → ⊥)
-            (λ group. (group < GROUPS) × (bit_at (slice_index self.now order) group ≡ 1)
-            × ((b : ℕ) → b < group → bit_at (slice_index self.now order) b ≡ 1 → ⊥)) }
+    /// Returns the first slot that has a free block of `order`, or `None` if no slot has one.
+    #[inline(always)]
+    pub fn first(&self, order: u8) -> Option<u16>
+        requires { order < length self.now }
+        ensures { result ≡ position (λ is_in. is_in) (slice_index_or self.now order []) }
     {
-        let word = self.words[order as usize];
-        if word == 0 {
+        let filled = self.filled[usize::from(order)];
+        if filled == 0 {
             return None;
         }
-        Some(lowest(word))
+        let row = filled.trailing_zeros();
+        let word = self.words[row as usize * ROW + usize::from(order)];
+        Some((row * u32::from(WORD_BITS) + word.trailing_zeros()) as u16)
     }
 
-    /// Notes that the superblock in `slot` has a free block of `order`.
-    pub fn note(&mut self, slot: u32, order: u8)
-        requires slot { slot < MAX_SUPERBLOCKS }
-        requires order { order < ORDERS }
-        ensures noted { bit_at (slice_index self.new order) (slot / GROUP_SLOTS) ≡ 1 }
-        ensures kept { (j b : ℕ) → bit_at (slice_index self.old j) b ≡ 1 → bit_at (slice_index self.new j) b ≡ 1 }
+    /// Updates the sets after the root word of the superblock in `slot` has changed from `old` to `new`. The word of an empty slot
+    /// is 0.
+    #[inline(always)]
+    pub fn note(&mut self, slot: u16, old: u16, new: u16)
+        requires slot { (j : ℕ) → j < length self.old → slot < length (slice_index_or self.old j []) }
+        requires before { (j : ℕ) → slice_index_or (slice_index_or self.old j []) slot false ≡ (bit_at old j == 1) }
+        requires orders { (j : ℕ) → bit_at new j ≡ 1 → j < length self.old }
+        ensures size { length self.new ≡ length self.old }
+        ensures sets { (j : ℕ) → slice_index_or self.new j [] ≡ slice_set (slice_index_or self.old j []) slot (bit_at new j == 1) }
     {
-        self.words[order as usize] |= 1 << (slot as usize / GROUP_SLOTS);
-    }
-
-    /// Notes that the superblock in `slot` has free blocks of the orders `from` to `to - 1`.
-    pub fn note_halves(&mut self, slot: u32, from: u8, to: u8)
-        requires slot { slot < MAX_SUPERBLOCKS }
-        requires orders { to ≤ ORDERS }
-        ensures noted { (j : ℕ) → from ≤ j → j < to → bit_at (slice_index self.new j) (slot / GROUP_SLOTS) ≡ 1 }
-        ensures kept { (j b : ℕ) → bit_at (slice_index self.old j) b ≡ 1 → bit_at (slice_index self.new j) b ≡ 1 }
-    {
-        for order in from..to {
-            self.note(slot, order);
+        let mut changed = old ^ new;
+        while changed != 0 {
+            let order = changed.trailing_zeros();
+            self.flip(order as u8, slot);
+            changed &= !(1 << order);
         }
     }
 
-    /// Notes that no slot of the group has a free block of `order`.
-    pub fn strike(&mut self, group: usize, order: u8)
-        requires group { group < GROUPS }
-        requires order { order < ORDERS }
-        ensures struck { bit_at (slice_index self.new order) group ≡ 1 → ⊥ }
-        ensures fewer { (j b : ℕ) → bit_at (slice_index self.new j) b ≡ 1 → bit_at (slice_index self.old j) b ≡ 1 }
-        ensures kept { (j b : ℕ) → (j ≡ order → b ≡ group → ⊥) → bit_at (slice_index self.old j) b ≡ 1
-            → bit_at (slice_index self.new j) b ≡ 1 }
+    /// Inserts `slot` into the set of `order` if it is not in, and removes it if it is.
+    #[inline(always)]
+    fn flip(&mut self, order: u8, slot: u16)
+        requires order { order < length self.old }
+        requires slot { slot < length (slice_index_or self.old order []) }
+        ensures { self.new ≡ slice_set self.old order (flipped (slice_index_or self.old order []) slot) }
     {
-        let word = self.words[order as usize];
-        self.words[order as usize] = word & !(1 << group);
+        let row = usize::from(slot / WORD_BITS);
+        let word = row * ROW + usize::from(order);
+        self.words[word] ^= 1 << (slot % WORD_BITS);
+        if self.words[word] == 0 {
+            self.filled[usize::from(order)] &= !(1 << row);
+        } else {
+            self.filled[usize::from(order)] |= 1 << row;
+        }
     }
 }

@@ -97,16 +97,26 @@ impl Superblock {
         self.tree.release_at(first, order)
     }
 
-    /// Makes the whole superblock one free block.
-    pub fn fill(&mut self)
+    /// Makes a bare superblock one free block. It writes only the root word.
+    pub fn fill_bare(&mut self)
+        requires { self.old ≡ bare_superblock self.old.tree.order }
         ensures order { self.new.tree.order ≡ self.old.tree.order }
         ensures words { Shows self.old.tree.order (λ _. true) self.new.tree.words }
         ensures orders { self.new.orders ≡ self.old.orders }
     {
-        self.tree.fill();
+        self.tree.fill_bare();
     }
 
-    /// Makes all frames unavailable and removes all taken blocks.
+    /// Makes all frames unavailable in a superblock that is one free block. It writes only the root word.
+    pub fn empty_whole(&mut self)
+        requires whole { Shows self.old.tree.order (λ _. true) self.old.tree.words }
+        requires untaken { (x : ℕ) → x < 2 ^ self.old.tree.order → slice_index_or self.old.orders x None ≡ None }
+        ensures { self.new ≡ bare_superblock self.old.tree.order }
+    {
+        self.tree.empty_whole();
+    }
+
+    /// Makes all frames unavailable and removes all taken blocks, whichever there are. It writes every word and every order.
     pub fn clear(&mut self)
         ensures { self.new ≡ bare_superblock self.old.tree.order }
     {

@@ -14,6 +14,8 @@ pub struct Tenant {
     slots: Vec<Option<u16>>,
     // The tenant holds neither this slot nor a later one, so searches end here.
     end: usize,
+    // The number of held slots.
+    held_slots: u32,
     free: Vec<u32>,
     taken: Vec<u32>,
 }
@@ -27,7 +29,7 @@ impl Model for Tenant {
 
     ghost use Rattle.buddy_core.specs.Roots.{IsStoredTenant};
 
-    ghost invariant = { λ a. IsStoredTenant a.slots.items a.end a.free.items a.taken.items };
+    ghost invariant = { λ a. IsStoredTenant a.slots.items a.end a.held_slots a.free.items a.taken.items };
 }
 
 impl Tenant {
@@ -43,6 +45,7 @@ impl Tenant {
         Ok(Tenant {
             slots,
             end: 0,
+            held_slots: 0,
             free,
             taken,
         })
@@ -98,12 +101,13 @@ impl Tenant {
     pub fn held_slots(&self) -> u32
         ensures { result ≡ count_by is_some self.now.slots }
     {
-        self.slots.iter().filter(|slot| slot.is_some()).count() as u32
+        self.held_slots
     }
 
     /// Puts a superblock whose frames are all free into an empty slot, and counts it as a free block of `order`.
     pub fn add_slot(&mut self, slot: u16, superblock: u16, order: u8)
         requires slot { slot < length self.old.slots }
+        requires empty { slice_index_or self.old.slots slot None ≡ None }
         requires order { order < length self.old.free }
         requires room { slice_index self.old.free order + 1 < 2 ^ 32 }
         ensures { self.new ≡ record self.old {
@@ -113,6 +117,7 @@ impl Tenant {
     {
         self.slots[slot as usize] = Some(superblock);
         self.end = self.end.max(slot as usize + 1);
+        self.held_slots += 1;
         self.free[order as usize] += 1;
     }
 
@@ -126,7 +131,7 @@ impl Tenant {
 
     /// Takes a superblock whose frames are all free out of its slot, and lowers the count of free blocks of `order` by 1.
     pub fn drop_slot(&mut self, slot: u16, order: u8)
-        requires slot { slot < length self.old.slots }
+        requires held { IsSome (slice_index_or self.old.slots slot None) }
         requires order { order < length self.old.free }
         requires some { 0 < slice_index self.old.free order }
         ensures { self.new ≡ record self.old {
@@ -135,6 +140,7 @@ impl Tenant {
         } }
     {
         self.slots[slot as usize] = None;
+        self.held_slots -= 1;
         self.free[order as usize] -= 1;
     }
 
@@ -180,6 +186,7 @@ impl Tenant {
             self.slots[slot] = None;
         }
         self.end = 0;
+        self.held_slots = 0;
         self.free.fill(0);
         self.taken.fill(0);
     }

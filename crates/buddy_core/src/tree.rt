@@ -81,20 +81,28 @@ impl Tree {
         self.words[0]
     }
 
-    /// Makes all frames unavailable.
+    /// Makes every frame of a bare tree available: the whole superblock is one free block. It writes only the root word.
+    pub fn fill_bare(&mut self)
+        requires { self.old ≡ bare_tree self.old.order }
+        ensures order { self.new.order ≡ self.old.order }
+        ensures words { Shows self.old.order (λ _. true) self.new.words }
+    {
+        self.words[0] = 1 << self.order;
+    }
+
+    /// Makes all frames unavailable in a tree of which every frame is available. It writes only the root word.
+    pub fn empty_whole(&mut self)
+        requires { Shows self.old.order (λ _. true) self.old.words }
+        ensures { self.new ≡ bare_tree self.old.order }
+    {
+        self.words[0] = 0;
+    }
+
+    /// Makes all frames unavailable, whichever are available. It writes every word.
     pub fn clear(&mut self)
         ensures { self.new ≡ bare_tree self.old.order }
     {
         self.words.fill(0);
-    }
-
-    /// Makes every frame available: the whole superblock is one free block.
-    pub fn fill(&mut self)
-        ensures order { self.new.order ≡ self.old.order }
-        ensures words { Shows self.old.order (λ _. true) self.new.words }
-    {
-        self.words.fill(0);
-        self.words[0] = 1 << self.order;
     }
 
     /// Returns the first frame of the first free block of `order`. There must be one, that is, bit `order` of the root word is 1.

@@ -1,24 +1,24 @@
-use Rattle.std.proofs.Common.{inl, inr, ◌≡◌, sym, ◌∙◌, ap, subst, ℕ, ◌+◌, ◌*◌, ◌/◌, ◌%◌, ◌^◌, ◌<◌, ◌≤◌, Option, Some, None, List, [], length, get_or, arith}
-use Rattle.std.specs.Int.{bit_at}
+use Rattle.std.proofs.Common.{◌≡◌, sym, ◌∙◌, ap, subst, ◌+◌, ◌*◌, ◌/◌, ◌%◌, ◌^◌, ◌<◌, ◌≤◌, Bool, Option, Some, None, List, length, get_or, set, arith}
 use Rattle.std.specs.Prelude.{slice_index, IfNone}
-use Rattle.std.proofs.lemmas.List.{get_or_read}
+use Rattle.std.proofs.lemmas.List.{get_or_read, set-get_or}
 use Rattle.std.proofs.lemmas.Nat.{shl_whole, mul-le, div-mul-add}
 use Rattle.std.proofs.Math.Pow.{pow_mono}
 use Rattle.model_core.specs.declared.limits.TheConstants.{MAX_SUPERBLOCKS}
 use Rattle.model_core.specs.Blocks.{block, IsChoice, IsWithout}
 use Rattle.buddy_core.specs.Content.{holding_of, superblock_at, is_held, taken_of, with_holding, with_block}
 use Rattle.buddy_core.specs.Counts.{CanCountMore}
-use Rattle.buddy_core.specs.Summary.{IsBounded}
-use Rattle.buddy_core.specs.Roots.{IsCounted, IsThere, IsSource, IsWithoutOrder}
+use Rattle.buddy_core.specs.Summary.{summary_of, AreExact}
+use Rattle.buddy_core.specs.Roots.{IsCounted, IsSource, IsWithoutOrder}
 use Rattle.buddy_core.specs.Stored.{StoredTree, StoredSuperblock, StoredTenant, stored_tenant, superblock_of, holding_shown}
-use Rattle.buddy_core.proofs.ContentShown.{IsShown, shown_is, by_shown, blank_of, bare_of}
+use Rattle.buddy_core.proofs.ContentShown.{IsShown, slot_within, shown_is, by_shown, blank_of, bare_of}
 use Rattle.buddy_core.proofs.TenantCounts.{room, slot_small}
 use Rattle.buddy_core.proofs.TenantChanged.{kept_changed, shown_changed}
 use Rattle.buddy_core.proofs.BlockSteps.{IsStep, step_change, holding_now}
-use Rattle.buddy_core.proofs.Reserving.{reserved_orders, Reserved, source_at, counted, none_without, order_within, IsFound, found_at, superblock_lt, is_choice, some_free, reserved_step}
-use Rattle.buddy_core.proofs.SummaryBounds.{bounded_by, bounded_noted}
+use Rattle.buddy_core.proofs.Reserving.{Reserved, source_at, counted, none_without, order_within, IsFound, found_at, superblock_lt, is_choice, some_free, reserved_step}
+use Rattle.buddy_core.proofs.ExactSummaries.{summary_read, slot_in, exact_noted}
+use Rattle.buddy_core.proofs.SummaryNoted.{word_before, orders_listed, step_noted}
 use Rattle.buddy_core.proofs.Buddy.reserve_block.Goals as goal
-use Rattle.buddy_core.proofs.Buddy.reserve_block.Goals.{After-find, After-index, After-index_mut-superblock, After-search-first, After-index_mut, After-count_reserved}
+use Rattle.buddy_core.proofs.Buddy.reserve_block.Goals.{After-index, After-index_mut-superblock, After-search-first, After-index_mut, After-count_reserved}
 
 -- what contracts see of tenant t is what is stored for it, and the tenant that is read is tenant t
 shown : (c : After-index) → IsShown c.self.inside.order c.self.inside.superblocks.items c.self.inside.tenants.items c.args.t c.args.self.now
@@ -26,14 +26,6 @@ shown c = shown_is c.self.inside.order c.self.inside.superblocks.items c.self.in
 
 tenant_read : (c : After-index) → c.index.result.now ≡ stored_tenant c.args.t c.self.inside.tenants.items
 tenant_read c = get_or_read c.self.inside.tenants.items c.args.t c.index.result.now (shown c).listed c.index.ensures blank_of
-
-pub find-requires-clause-there : goal.find-requires-clause-there
-find-requires-clause-there c =
-    let a = c.self.inside in
-    let before = (goal.at.find-requires-clause-there c).After-index in
-    subst (λ (r : StoredTenant). IsThere c.deref.result.now r.slots) (sym (tenant_read before))
-    (subst (λ (xs : List StoredSuperblock). IsThere xs (stored_tenant c.args.t a.tenants.items).slots) (sym c.deref.ensures.value)
-    (c.self.invariant.0.each c.args.t (shown before).listed).within)
 
 pub find-requires-clause-counted : goal.find-requires-clause-counted
 find-requires-clause-counted c =
@@ -47,7 +39,7 @@ pub returns-in_err-source-clause-refused : goal.returns-in_err-source-clause-ref
 returns-in_err-source-clause-refused c =
     let a = c.self.inside in
     let before = (goal.at.returns-in_err-source-clause-refused c).After-index in
-    let none : IsWithoutOrder c.deref.result.now c.index.result.now.slots c.args.k = c.in_err-source.ensures.found in
+    let none : IsWithoutOrder c.deref.result.now c.index.result.now.slots c.args.k = c.in_err-source.ensures in
     let here : IsWithoutOrder a.superblocks.items (stored_tenant c.args.t a.tenants.items).slots c.args.k
     = subst (λ (r : StoredTenant). IsWithoutOrder a.superblocks.items r.slots c.args.k) (tenant_read before) (subst (λ (xs : List StoredSuperblock). IsWithoutOrder xs c.index.result.now.slots c.args.k) c.deref.ensures.value none) in
     if_none c.from_residual.result _ (
@@ -65,7 +57,7 @@ source : (c : After-index_mut-superblock) → c.index.result.now ≡ stored_tena
     → IsSource c.self.inside.superblocks.items (stored_tenant c.args.t c.self.inside.tenants.items).slots c.args.k c.in_ok-source.source
 source c tenant =
     source_at c.deref.result.now c.self.inside.superblocks.items c.index.result.now.slots (stored_tenant c.args.t c.self.inside.tenants.items).slots c.args.k c.in_ok-source.source
-    c.deref.ensures.value (ap (λ (r : StoredTenant). r.slots) tenant) c.in_ok-source.ensures.found
+    c.deref.ensures.value (ap (λ (r : StoredTenant). r.slots) tenant) c.in_ok-source.ensures
 
 -- the superblock that is read is the superblock of the source, and its tree has the order of the machine's superblocks
 superblock_read : (c : After-index_mut-superblock) → (source : IsSource c.self.inside.superblocks.items (stored_tenant c.args.t c.self.inside.tenants.items).slots c.args.k c.in_ok-source.source)
@@ -86,7 +78,7 @@ search-first-requires c =
     let g = goal.at.search-first-requires c in
     let listed = (shown g.After-index).listed in
     let at = source g.After-index_mut-superblock (tenant_read g.After-index) in
-    let order = ap (λ (t : StoredTree). t.order) c.tree.ensures ∙ order_read g.After-index_mut-superblock at listed in
+    let order = ap (λ (t : StoredTree). t.order) c.tree-2.ensures ∙ order_read g.After-index_mut-superblock at listed in
     let within = order_within a.order a.superblocks.items a.tenants.items c.self.invariant.0 c.args.t listed c.args.k c.in_ok-source.source at in
     omega arith
 
@@ -101,7 +93,7 @@ reserve_at-requires-clause-from c =
     omega arith
 
 pub reserve_at-requires-clause-first : goal.reserve_at-requires-clause-first
-reserve_at-requires-clause-first c = subst (λ (t : StoredTree). c.search-first.result < 2 ^ t.order) c.tree.ensures c.search-first.ensures.within
+reserve_at-requires-clause-first c = subst (λ (t : StoredTree). c.search-first.result < 2 ^ t.order) c.tree-2.ensures c.search-first.ensures.within
 
 -- `search` returned the first frame of the first free block of the source's order
 found : (c : After-search-first) → c.args.t < length c.self.inside.tenants.items
@@ -110,8 +102,8 @@ found : (c : After-search-first) → c.args.t < length c.self.inside.tenants.ite
 found c listed at =
     let a = c.self.inside in
     let p = c.in_ok-source.source in
-    found_at a.order a.superblocks.items a.tenants.items c.self.invariant.0 c.args.t listed c.args.k p at c.tree.result.now
-    (c.tree.ensures ∙ ap (λ (z : StoredSuperblock). z.tree) (get_or_read a.superblocks.items p.superblock c.index_mut-superblock.result.now ((c.self.invariant.0.each c.args.t listed).within p.slot p.superblock at.at) c.index_mut-superblock.ensures.value bare_of)) c.search-first.result (c.search-first.ensures.within, c.search-first.ensures.found)
+    found_at a.order a.superblocks.items a.tenants.items c.self.invariant.0 c.args.t listed c.args.k p at c.tree-2.result.now
+    (c.tree-2.ensures ∙ ap (λ (z : StoredSuperblock). z.tree) (get_or_read a.superblocks.items p.superblock c.index_mut-superblock.result.now ((c.self.invariant.0.each c.args.t listed).within p.slot p.superblock at.at) c.index_mut-superblock.ensures.value bare_of)) c.search-first.result (c.search-first.ensures.within, c.search-first.ensures.found)
 
 -- the tenant that is read for the counts is tenant t as it was before the call
 tenant_before : (c : After-index_mut) → c.args.t < length c.self.inside.tenants.items → c.index_mut.result.now ≡ stored_tenant c.args.t c.self.inside.tenants.items
@@ -168,46 +160,54 @@ reserved : (c : After-count_reserved)
     c.search-first.result c.reserve_at.new.self c.count_reserved.new.self (Some c.args.k)
 reserved c found tenant = reserved_step c.self.invariant.0 found c.reserve_at.new.self c.count_reserved.new.self (reservation c found tenant)
 
--- the tenant's summary bounds its free blocks, before and after the search
-pub find-requires-clause-bounded : goal.find-requires-clause-bounded
-find-requires-clause-bounded c =
-    let a = c.self.inside in
-    let s = shown (goal.at.find-requires-clause-bounded c).After-index in
-    let words = get_or_read a.summaries.items c.args.t c.index_mut-summaries.result.now (let size = c.self.invariant.1.size in let lt = s.listed in omega arith) c.index_mut-summaries.ensures.value [] in
-    subst (λ (r : StoredTenant). IsBounded c.deref.result.now r.slots c.index_mut-summaries.result.now) (sym (tenant_read (goal.at.find-requires-clause-bounded c).After-index))
-    (subst (λ (xs : List StoredSuperblock). IsBounded xs (stored_tenant c.args.t a.tenants.items).slots c.index_mut-summaries.result.now) (sym c.deref.ensures.value)
-    (subst (λ (ws : List ℕ). IsBounded a.superblocks.items (stored_tenant c.args.t a.tenants.items).slots ws) (sym words) (c.self.invariant.1.each c.args.t)))
+-- the sets that are read are the tenant's summary
+sets_read : (c : After-index) → (sets : List (List Bool)) → sets ≡ get_or c.self.inside.summaries.items c.args.t sets → sets ≡ summary_of c.self.inside.superblocks.items (stored_tenant c.args.t c.self.inside.tenants.items)
+sets_read c sets read = summary_read c.self.inside.superblocks.items c.self.inside.tenants.items c.self.inside.summaries.items c.self.invariant.1 c.args.t (shown c).listed sets read
 
-told : (c : After-find) → c.index.result.now ≡ stored_tenant c.args.t c.self.inside.tenants.items → IsBounded c.deref.result.now c.index.result.now.slots c.find.new.summaries
-    → IsBounded c.self.inside.superblocks.items (stored_tenant c.args.t c.self.inside.tenants.items).slots c.find.new.summaries
-told c tenant still =
-    subst (λ (r : StoredTenant). IsBounded c.self.inside.superblocks.items r.slots c.find.new.summaries) tenant
-    (subst (λ (xs : List StoredSuperblock). IsBounded xs c.index.result.now.slots c.find.new.summaries) c.deref.ensures.value still)
+pub find-requires-clause-exact : goal.find-requires-clause-exact
+find-requires-clause-exact c =
+    let a = c.self.inside in
+    let before = (goal.at.find-requires-clause-exact c).After-index in
+    subst (λ (r : StoredTenant). c.index_mut-summary.result.now ≡ summary_of c.deref.result.now r) (sym (tenant_read before))
+    (subst (λ (xs : List StoredSuperblock). c.index_mut-summary.result.now ≡ summary_of xs (stored_tenant c.args.t a.tenants.items)) (sym c.deref.ensures.value)
+    (sets_read before c.index_mut-summary.result.now c.index_mut-summary.ensures.value))
+
+pub note-requires-clause-slot : goal.note-requires-clause-slot
+note-requires-clause-slot c =
+    let a = c.self.inside in
+    let p = c.in_ok-source.source in
+    let g = goal.at.note-requires-clause-slot c in
+    let tenant = stored_tenant c.args.t a.tenants.items in
+    slot_in a.superblocks.items tenant c.index_mut-summary.result.now (sets_read g.After-index c.index_mut-summary.result.now c.index_mut-summary.ensures.value) p.slot
+    (slot_within tenant.slots p.slot p.superblock (source g.After-index_mut-superblock (tenant_read g.After-index)).at)
+
+pub note-requires-clause-before : goal.note-requires-clause-before
+note-requires-clause-before c =
+    let a = c.self.inside in
+    let p = c.in_ok-source.source in
+    let g = goal.at.note-requires-clause-before c in
+    let listed = (shown g.After-index).listed in
+    let mine = c.self.invariant.0.each c.args.t listed in
+    let source = source g.After-index_mut-superblock (tenant_read g.After-index) in
+    let root = c.root-old.ensures ∙ ap (λ (z : StoredTree). slice_index z.words 0) c.tree.ensures ∙ ap (λ (z : StoredSuperblock). slice_index z.tree.words 0) (superblock_read g.After-index_mut-superblock source listed) in
+    word_before c.self.inside.superblocks.items (stored_tenant c.args.t c.self.inside.tenants.items) mine.sizes (sets_read g.After-index c.index_mut-summary.result.now c.index_mut-summary.ensures.value) p.slot p.superblock c.root-old.result _ source.at (mine.shows p.slot p.superblock source.at) root
+
+pub note-requires-clause-orders : goal.note-requires-clause-orders
+note-requires-clause-orders c =
+    let g = goal.at.note-requires-clause-orders c in
+    let listed = (shown g.After-index).listed in
+    let at = found g.After-search-first listed (source g.After-index_mut-superblock (tenant_read g.After-index)) in
+    let step = reserved g.After-count_reserved at (tenant_before g.After-index_mut listed) in
+    orders_listed c.self.inside.superblocks.items (stored_tenant c.args.t c.self.inside.tenants.items) (c.self.invariant.0.each c.args.t listed).sizes (sets_read g.After-index c.index_mut-summary.result.now c.index_mut-summary.ensures.value) _ c.reserve_at.new.self.tree.words c.root.result step.shows
+    (c.root.ensures ∙ ap (λ (z : StoredTree). slice_index z.words 0) c.tree-3.ensures)
 
 -- if nothing was found, the invariant still holds
 pub invariant_of-self : goal.invariant_of-self
 invariant_of-self c =
-    let g = goal.at.invariant_of-self c in
-    let listed = (shown g.After-index).listed in
-    (c.self.invariant.0, bounded_by c.self.invariant.1 c.args.t c.find.new.summaries listed (told g.After-find (tenant_read g.After-index) c.in_err-source.ensures.bounded))
-
-pub note_halves-requires-clause-slot : goal.note_halves-requires-clause-slot
-note_halves-requires-clause-slot c =
-    let a = c.self.inside in
-    let p = c.in_ok-source.source in
-    let g = goal.at.note_halves-requires-clause-slot c in
-    let listed = (shown g.After-index).listed in
-    let small = slot_small a.order a.superblocks.items a.tenants.items c.self.invariant.0 c.args.t listed p.slot p.superblock (source g.After-index_mut-superblock (tenant_read g.After-index)).at in
-    omega (arith, c.from-slot.ensures)
-
-pub note_halves-requires-clause-orders : goal.note_halves-requires-clause-orders
-note_halves-requires-clause-orders c =
-    let a = c.self.inside in
-    let g = goal.at.note_halves-requires-clause-orders c in
-    let listed = (shown g.After-index).listed in
-    let within = order_within a.order a.superblocks.items a.tenants.items c.self.invariant.0 c.args.t listed c.args.k c.in_ok-source.source (source g.After-index_mut-superblock (tenant_read g.After-index)) in
-    let small = c.self.invariant.0.small in
-    omega arith
+    let a = c.self.inside in (
+      c.self.invariant.0,
+      subst (AreExact a.superblocks.items a.tenants.items) (sym (ap (set a.summaries.items c.args.t) c.index_mut-summary.ensures.value ∙ set-get_or a.summaries.items c.args.t c.index_mut-summary.result.now)) c.self.invariant.1,
+    )
 
 pub invariant_of-self-2 : goal.invariant_of-self-2
 invariant_of-self-2 c =
@@ -217,18 +217,12 @@ invariant_of-self-2 c =
     let listed = (shown g.After-index).listed in
     let at = found g.After-search-first listed (source g.After-index_mut-superblock (tenant_read g.After-index)) in
     let step = reserved g.After-count_reserved at (tenant_before g.After-index_mut listed) in
-    let kept = kept_changed a.order a.superblocks.items a.tenants.items c.args.t p.superblock c.reserve_at.new.self c.count_reserved.new.self c.self.invariant.0
-    (step_change a.order a.superblocks.items a.tenants.items c.args.t p.slot p.superblock c.search-first.result c.reserve_at.new.self c.count_reserved.new.self (Some c.args.k) c.self.invariant.0 step) in
-    let bounded = told g.After-find (tenant_read g.After-index) c.in_ok-source.ensures.bounded in
-    let orders = reserved_orders c.self.invariant.0 at c.reserve_at.new.self c.count_reserved.new.self (reservation g.After-count_reserved at (tenant_before g.After-index_mut listed)) in (
-      kept,
-      bounded_noted c.self.invariant.1 a.order p.superblock c.args.t p.slot c.reserve_at.new.self c.count_reserved.new.self c.note_halves.new.self listed (superblock_lt c.self.invariant.0 at) kept
-          (ap (λ (ss : List (Option ℕ)). get_or ss p.slot None) step.slots ∙ at.source.at) (λ u ne. ap (λ (ss : List (Option ℕ)). get_or ss u None) step.slots)
-          (λ j bit. elim (orders j bit) [
-            | inl was ↦ c.note_halves.ensures.kept j (p.slot / 8) (bounded j p.slot p.superblock at.source.at was)
-            | inr half ↦ subst (λ n. bit_at (slice_index c.note_halves.new.self j) (n / 8) ≡ 1) c.from-slot.ensures (c.note_halves.ensures.noted j half.0 half.1)
-          ])
-          c.find.new.summaries bounded c.note_halves.ensures.kept,
+    let root = c.root.ensures ∙ ap (λ (z : StoredTree). slice_index z.words 0) c.tree-3.ensures in (
+      kept_changed a.order a.superblocks.items a.tenants.items c.args.t p.superblock c.reserve_at.new.self c.count_reserved.new.self c.self.invariant.0
+          (step_change a.order a.superblocks.items a.tenants.items c.args.t p.slot p.superblock c.search-first.result c.reserve_at.new.self c.count_reserved.new.self (Some c.args.k) c.self.invariant.0 step),
+      exact_noted a.superblocks.items a.tenants.items a.summaries.items c.self.invariant.1 c.args.t p.superblock p.slot c.reserve_at.new.self c.count_reserved.new.self c.root.result
+          (step_noted a.order a.superblocks.items a.tenants.items c.self.invariant.0 c.args.t p.slot p.superblock c.search-first.result c.reserve_at.new.self c.count_reserved.new.self (Some c.args.k) step c.root.result root)
+          c.index_mut-summary.result.now c.note.new.self c.index_mut-summary.ensures.value c.note.ensures.size c.note.ensures.sets,
     )
 
 pub overflow_add-result : goal.overflow_add-result
@@ -242,7 +236,7 @@ overflow_add-result c =
     let slot : p.slot ≤ 255 = omega (arith, slot_small a.order a.superblocks.items a.tenants.items c.self.invariant.0 c.args.t listed p.slot p.superblock at.source.at) in
     let size = pow_mono {i = a.order} {j = 8} c.self.invariant.0.small in
     let first = mul-le p.slot (2 ^ a.order) 255 256 slot (omega arith) in
-    let same = ap (λ n. n * 2 ^ a.order) c.from-slot.ensures in
+    let same = ap (λ n. n * 2 ^ a.order) c.from.ensures in
     omega arith
 
 pub returns-clause-done : goal.returns-clause-done
@@ -257,8 +251,8 @@ returns-clause-done c =
     let changed = step_change a.order a.superblocks.items a.tenants.items c.args.t p.slot p.superblock x c.reserve_at.new.self c.count_reserved.new.self (Some c.args.k) c.self.invariant.0 step in
     let f = p.slot * 2 ^ a.order + x in
     let slot_lt : p.slot < MAX_SUPERBLOCKS = slot_small a.order a.superblocks.items a.tenants.items c.self.invariant.0 c.args.t s.listed p.slot p.superblock at.source.at in
-    let f_is : c.from-slot.result * 2 ^ a.order % 4294967296 + x ≡ p.slot * 2 ^ a.order + x
-    = ap (λ n. n * 2 ^ a.order % 4294967296 + x) c.from-slot.ensures ∙ ap (λ n. n + x) (shl_whole p.slot 8 a.order 32 (omega arith) (let small = c.self.invariant.0.small in omega arith)) in
+    let f_is : c.from.result * 2 ^ a.order % 4294967296 + x ≡ p.slot * 2 ^ a.order + x
+    = ap (λ n. n * 2 ^ a.order % 4294967296 + x) c.from.ensures ∙ ap (λ n. n + x) (shl_whole p.slot 8 a.order 32 (omega arith) (let small = c.self.invariant.0.small in omega arith)) in
     let choice = by_shown (λ top held taken. IsChoice top held taken c.args.k (block f p.order)) a.order a.superblocks.items a.tenants.items c.args.t c.args.self.now s
     (is_choice c.self.invariant.0 at) in
     let h = with_block f c.args.k (holding_shown a.order a.superblocks.items (stored_tenant c.args.t a.tenants.items)) in
@@ -285,8 +279,8 @@ returns-clause-under c =
     let at = found g.After-search-first s.listed (source g.After-index_mut-superblock (tenant_read g.After-index)) in
     let top = s.order in
     let slot_lt : p.slot < MAX_SUPERBLOCKS = slot_small a.order a.superblocks.items a.tenants.items c.self.invariant.0 c.args.t s.listed p.slot p.superblock at.source.at in
-    let f_is : c.from-slot.result * 2 ^ a.order % 4294967296 + x ≡ p.slot * 2 ^ a.order + x
-    = ap (λ n. n * 2 ^ a.order % 4294967296 + x) c.from-slot.ensures ∙ ap (λ n. n + x) (shl_whole p.slot 8 a.order 32 (omega arith) (let small = c.self.invariant.0.small in omega arith)) in
-    let slot : (c.from-slot.result * 2 ^ a.order % 4294967296 + x) / 2 ^ c.args.self.now.top ≡ p.slot
+    let f_is : c.from.result * 2 ^ a.order % 4294967296 + x ≡ p.slot * 2 ^ a.order + x
+    = ap (λ n. n * 2 ^ a.order % 4294967296 + x) c.from.ensures ∙ ap (λ n. n + x) (shl_whole p.slot 8 a.order 32 (omega arith) (let small = c.self.invariant.0.small in omega arith)) in
+    let slot : (c.from.result * 2 ^ a.order % 4294967296 + x) / 2 ^ c.args.self.now.top ≡ p.slot
     = ap (λ n. n / 2 ^ c.args.self.now.top) f_is ∙ ap (λ n. (p.slot * 2 ^ a.order + x) / 2 ^ n) top ∙ div-mul-add p.slot (2 ^ a.order) x at.inside in
     ap (superblock_at (holding_of c.args.t c.args.self.now)) slot ∙ ap (λ h. superblock_at h p.slot) s.holding ∙ at.source.at

@@ -1,21 +1,26 @@
 use Rattle.std.proofs.Common.{◌≡◌, refl, sym, ◌∙◌, ap, subst, ℕ, ◌+◌, ◌<◌, ◌≤◌, List, Some, None, get_or, set, replicate, length, arith}
 use Rattle.std.proofs.lemmas.List.{get_or_read}
+use Rattle.std.proofs.lemmas.Nat.Bits.{bit_at-zero}
+use Rattle.std.specs.Prelude.{slice_index}
 use Rattle.std.proofs.lemmas.Option.{none-some}
 use Rattle.buddy_core.specs.declared.Buddy.TheInside.{Inside}
 use Rattle.buddy_core.specs.Content as contents
 use Rattle.buddy_core.specs.Content.{Content, holding_of, with_holding, nothing_held}
-use Rattle.buddy_core.specs.Stored.{StoredSuperblock, StoredTenant, bare_superblock, bare_tenant, stored_tenant, superblock_at, holding_shown, content_shown}
-use Rattle.buddy_core.specs.Summary.{AreBounded}
-use Rattle.buddy_core.specs.Kept.{IsKept, HasTenantSizes}
-use Rattle.buddy_core.proofs.ContentShown.{shown_is, slot_read, blank_of, bare_of}
+use Rattle.buddy_core.specs.Stored.{StoredTree, StoredSuperblock, StoredTenant, bare_superblock, bare_tenant, stored_tenant, superblock_at, holding_shown, content_shown}
+use Rattle.buddy_core.specs.Summary.{AreExact}
+use Rattle.buddy_core.specs.Kept.{IsKept, HasTenantSizes, available_in}
+use Rattle.buddy_core.specs.Tree.{Shows}
+use Rattle.buddy_core.proofs.ExactSummaries.{summary_read, slot_in}
+use Rattle.buddy_core.proofs.SummaryNoted.{word_before}
+use Rattle.buddy_core.proofs.ContentShown.{slot_within, shown_is, slot_read, blank_of, bare_of}
 use Rattle.buddy_core.proofs.NothingHeld.{cleared_tenant}
-use Rattle.buddy_core.proofs.TenantReset.{Cleared, cleared_none, cleared_past, cleared_more, cleared_on, next_order, reset_kept, reset_shown, reset_bounded}
+use Rattle.buddy_core.proofs.TenantReset.{Cleared, cleared_none, cleared_past, cleared_more, cleared_on, next_same, reset_kept, reset_shown, reset_exact, cleared_exact}
 use Rattle.buddy_core.proofs.Buddy.reset.Goals as goal
 
 pub loop-slot-init : goal.loop-slot-init
 loop-slot-init c =
     let a = c.self.inside in
-    (cleared_none a.order a.superblocks.items (stored_tenant c.args.t a.tenants.items), refl, refl, refl)
+    (cleared_none a.order a.superblocks.items (stored_tenant c.args.t a.tenants.items), refl, refl, c.self.invariant.1)
 
 pub loop-slot-preserved : goal.loop-slot-preserved
 loop-slot-preserved c =
@@ -25,6 +30,7 @@ loop-slot-preserved c =
     let superblocks = l.self-inside.superblocks.items in
     let tenant = stored_tenant c.args.t a.tenants.items in
     let read : c.index.result.now ≡ get_or a.tenants.items c.args.t c.index.result.now = c.index.ensures ∙ ap (λ (xs : List StoredTenant). get_or xs c.args.t c.index.result.now) l.invariant.1 in
+    let exact : Inside → Type 0 = λ z. AreExact z.superblocks.items a.tenants.items z.summaries.items in
     let apart = λ (w v i : ℕ) (p : superblock_at tenant w ≡ Some i) (q : superblock_at tenant v ≡ Some i). (c.self.invariant.0.apart c.args.t w c.args.t v i p q).1 in
     elim c.match-superblock_at.branch [
       | goal.in-Some w ↦
@@ -32,14 +38,16 @@ loop-slot-preserved c =
           let at = slot_read a.tenants.items c.args.t c.index.result.now s.listed read l.slot (Some m) (w.in-Some.ensures ∙ ap (superblock_at c.index.result.now) c.from.ensures) in
           let m_lt = (c.self.invariant.0.each c.args.t s.listed).within l.slot m at in
           let now_lt : m < length superblocks = subst (λ n. m < n) (sym l.invariant.0.size) m_lt in
-          let order = next_order a.order a.superblocks.items superblocks tenant l.slot m at (c.self.invariant.0.order m m_lt) apart l.invariant.0 in
+          let order = ap (λ (z : StoredSuperblock). z.tree.order) (next_same a.order a.superblocks.items superblocks tenant l.slot m at apart l.invariant.0) ∙ c.self.invariant.0.order m m_lt in
           let old = get_or_read superblocks m w.index_mut.result.now now_lt w.index_mut.ensures.value bare_of in
           let blank = w.clear.ensures ∙ ap (λ (z : StoredSuperblock). bare_superblock z.tree.order) old ∙ ap bare_superblock order in (
             subst (λ (xs : List StoredSuperblock). Cleared a.order a.superblocks.items xs tenant (l.slot + 1)) (sym (ap (λ (z : Inside). z.superblocks.items) w.self-inside-is))
                 (cleared_more a.order a.superblocks.items superblocks tenant l.slot m w.clear.new.self at m_lt blank apart l.invariant.0),
             ap (λ (z : Inside). z.tenants.items) w.self-inside-is ∙ l.invariant.1,
             ap (λ (z : Inside). z.order) w.self-inside-is ∙ l.invariant.2,
-            ap (λ (z : Inside). z.summaries.items) w.self-inside-is ∙ l.invariant.3,
+            subst exact (sym w.self-inside-is)
+                (cleared_exact a.order a.superblocks.items superblocks a.tenants.items l.self-inside.summaries.items c.self.invariant.0 l.invariant.3 c.args.t l.slot m w.clear.new.self s.listed at now_lt blank
+                w.index_mut-in-Some.result.now w.note.new.self w.index_mut-in-Some.ensures.value w.note.ensures.size w.note.ensures.sets),
           )
       | goal.in_default w ↦
           let at = slot_read a.tenants.items c.args.t c.index.result.now s.listed read l.slot None (w.in_default.ensures ∙ ap (superblock_at c.index.result.now) c.from.ensures) in (
@@ -47,7 +55,7 @@ loop-slot-preserved c =
                 (cleared_past a.order a.superblocks.items superblocks tenant l.slot (λ m there. none-some m (sym at ∙ there)) l.invariant.0),
             ap (λ (z : Inside). z.tenants.items) w.self-inside-is ∙ l.invariant.1,
             ap (λ (z : Inside). z.order) w.self-inside-is ∙ l.invariant.2,
-            ap (λ (z : Inside). z.summaries.items) w.self-inside-is ∙ l.invariant.3,
+            subst exact (sym w.self-inside-is) l.invariant.3,
           )
     ]
 
@@ -74,14 +82,47 @@ invariant_of-self c =
     let tenant = tenant_cleared a.order (length a.superblocks.items) l.self-inside.tenants.items a.tenants.items c.args.t c.index_mut-2.result.now c.clear-2.new.self l.invariant.1 s.listed c.index_mut-2.ensures.value
     (c.self.invariant.0.each c.args.t s.listed).sizes c.clear-2.ensures.slots c.clear-2.ensures.free c.clear-2.ensures.taken in
     let base = reset_kept a.order a.superblocks.items a.tenants.items c.self.invariant.0 c.args.t s.listed l.self-inside.superblocks.items past (omega arith) cleared in
-    let bounded = reset_bounded a.order a.superblocks.items a.tenants.items c.self.invariant.0 c.args.t s.listed l.self-inside.superblocks.items past (omega arith) cleared a.summaries.items c.self.invariant.1 in (
+    let exact = reset_exact a.order a.superblocks.items a.tenants.items c.self.invariant.0 c.args.t s.listed l.self-inside.superblocks.items past (omega arith) cleared l.self-inside.summaries.items l.invariant.3 in (
       subst (λ n. IsKept n l.self-inside.superblocks.items (set l.self-inside.tenants.items c.args.t c.clear-2.new.self)) (sym l.invariant.2)
           (subst (λ (xs : List StoredTenant). IsKept a.order l.self-inside.superblocks.items (set xs c.args.t c.clear-2.new.self)) (sym l.invariant.1)
           (subst (λ (r : StoredTenant). IsKept a.order l.self-inside.superblocks.items (set a.tenants.items c.args.t r)) (sym tenant) base)),
-      subst (λ (bs : List (List ℕ)). AreBounded l.self-inside.superblocks.items (set l.self-inside.tenants.items c.args.t c.clear-2.new.self) bs) (sym l.invariant.3)
-          (subst (λ (xs : List StoredTenant). AreBounded l.self-inside.superblocks.items (set xs c.args.t c.clear-2.new.self) a.summaries.items) (sym l.invariant.1)
-          (subst (λ (r : StoredTenant). AreBounded l.self-inside.superblocks.items (set a.tenants.items c.args.t r) a.summaries.items) (sym tenant) bounded)),
+      subst (λ (xs : List StoredTenant). AreExact l.self-inside.superblocks.items (set xs c.args.t c.clear-2.new.self) l.self-inside.summaries.items) (sym l.invariant.1)
+          (subst (λ (r : StoredTenant). AreExact l.self-inside.superblocks.items (set a.tenants.items c.args.t r) l.self-inside.summaries.items) (sym tenant) exact),
     )
+
+pub note-requires-clause-slot : goal.note-requires-clause-slot
+note-requires-clause-slot c =
+    let a = c.self.inside in
+    let s = shown_is a.order a.superblocks.items a.tenants.items c.args.t c.args.self.now c.self.view_is c.requires in
+    let l = c.loop-slot in
+    let tenant = stored_tenant c.args.t a.tenants.items in
+    let read : c.index.result.now ≡ get_or a.tenants.items c.args.t c.index.result.now = c.index.ensures ∙ ap (λ (xs : List StoredTenant). get_or xs c.args.t c.index.result.now) l.invariant.1 in
+    let at = slot_read a.tenants.items c.args.t c.index.result.now s.listed read l.slot (Some c.in-Some.m) (c.in-Some.ensures ∙ ap (superblock_at c.index.result.now) c.from.ensures) in
+    let sets = summary_read l.self-inside.superblocks.items a.tenants.items l.self-inside.summaries.items l.invariant.3 c.args.t s.listed c.index_mut-in-Some.result.now c.index_mut-in-Some.ensures.value in
+    slot_in l.self-inside.superblocks.items tenant c.index_mut-in-Some.result.now sets l.slot (slot_within tenant.slots l.slot c.in-Some.m at)
+
+pub note-requires-clause-before : goal.note-requires-clause-before
+note-requires-clause-before c =
+    let a = c.self.inside in
+    let s = shown_is a.order a.superblocks.items a.tenants.items c.args.t c.args.self.now c.self.view_is c.requires in
+    let l = c.loop-slot in
+    let m = c.in-Some.m in
+    let superblocks = l.self-inside.superblocks.items in
+    let tenant = stored_tenant c.args.t a.tenants.items in
+    let mine = c.self.invariant.0.each c.args.t s.listed in
+    let read : c.index.result.now ≡ get_or a.tenants.items c.args.t c.index.result.now = c.index.ensures ∙ ap (λ (xs : List StoredTenant). get_or xs c.args.t c.index.result.now) l.invariant.1 in
+    let at = slot_read a.tenants.items c.args.t c.index.result.now s.listed read l.slot (Some m) (c.in-Some.ensures ∙ ap (superblock_at c.index.result.now) c.from.ensures) in
+    let now_lt : m < length superblocks = subst (λ n. m < n) (sym l.invariant.0.size) (mine.within l.slot m at) in
+    let apart = λ (w v i : ℕ) (p : superblock_at tenant w ≡ Some i) (q : superblock_at tenant v ≡ Some i). (c.self.invariant.0.apart c.args.t w c.args.t v i p q).1 in
+    let same = next_same a.order a.superblocks.items superblocks tenant l.slot m at apart l.invariant.0 in
+    let sets = summary_read superblocks a.tenants.items l.self-inside.summaries.items l.invariant.3 c.args.t s.listed c.index_mut-in-Some.result.now c.index_mut-in-Some.ensures.value in
+    let root = c.root-root.ensures ∙ ap (λ (z : StoredTree). slice_index z.words 0) c.tree.ensures
+    ∙ ap (λ (z : StoredSuperblock). slice_index z.tree.words 0) (get_or_read superblocks m c.index-in-Some.result.now now_lt c.index-in-Some.ensures bare_of) in
+    word_before superblocks tenant mine.sizes sets l.slot m c.root-root.result (available_in a.order a.superblocks.items tenant l.slot) at
+    (subst (λ (z : StoredSuperblock). Shows a.order (available_in a.order a.superblocks.items tenant l.slot) z.tree.words) (sym same) (mine.shows l.slot m at)) root
+
+pub note-requires-clause-orders : goal.note-requires-clause-orders
+note-requires-clause-orders c j bit = absurd (let off = bit_at-zero j in omega arith)
 
 pub returns : goal.returns
 returns c =

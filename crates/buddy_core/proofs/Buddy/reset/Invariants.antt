@@ -1,5 +1,6 @@
 use Rattle.std.proofs.Common.{◌≡◌}
 use Rattle.buddy_core.specs.Stored.{stored_tenant}
+use Rattle.buddy_core.specs.Summary.{AreExact}
 use Rattle.buddy_core.proofs.TenantReset.{Cleared}
 use Rattle.buddy_core.proofs.Buddy.reset.Given as goal
 
@@ -8,4 +9,4 @@ invariant-loop-slot l =
     Cleared l.initial.self-inside.order l.initial.self-inside.superblocks.items l.self-inside.superblocks.items (stored_tenant l.t l.initial.self-inside.tenants.items) l.slot
     × (l.self-inside.tenants.items ≡ l.initial.self-inside.tenants.items)
     × (l.self-inside.order ≡ l.initial.self-inside.order)
-    × (l.self-inside.summaries.items ≡ l.initial.self-inside.summaries.items)
+    × AreExact l.self-inside.superblocks.items l.initial.self-inside.tenants.items l.self-inside.summaries.items

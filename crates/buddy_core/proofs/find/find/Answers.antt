@@ -1,69 +1,45 @@
-use Rattle.std.proofs.Common.{sym, ◌∙◌, subst, inl, inr, ◌≡◌, ◌/◌, ◌<◌, ◌≤◌, get_or, arith}
-use Rattle.std.specs.Int.{bit_at}
+use Rattle.std.proofs.Common.{sym, ◌∙◌, ap, subst, arith}
 use Rattle.std.specs.Prelude.{MatchOption}
-use Rattle.std.proofs.lemmas.Bool.{cases_lt}
-use Rattle.buddy_core.specs.Roots.{HasBit, IsWithoutOrder, IsSource}
-use Rattle.buddy_core.proofs.ContentShown.{slot_within}
+use Rattle.std.proofs.lemmas.Option.{none-some}
+use Rattle.buddy_core.specs.Roots.{IsWithoutOrder, IsSource}
+use Rattle.buddy_core.specs.Stored.{superblock_at}
+use Rattle.buddy_core.specs.Summary.{is_source}
+use Rattle.buddy_core.proofs.FirstSlot.{source_bit, source_slot, order_in, not_none, first_is, first_least}
 use Rattle.buddy_core.proofs.find.find.Goals as goal
 
-pub returns-in_err-order-clause-found : goal.returns-in_err-order-clause-found
-returns-in_err-order-clause-found c =
+pub returns-in_err-order : goal.returns-in_err-order
+returns-in_err-order c =
     let none : IsWithoutOrder c.args.superblocks.now c.args.tenant.now.slots c.args.k = (λ j u m le at bit.
     let zero = c.in_err-order.ensures j le in
     let some = (c.requires.counted j).1 (u, m, at, bit) in
     absurd (omega arith)) in
     subst (λ o. MatchOption o (IsWithoutOrder c.args.superblocks.now c.args.tenant.now.slots c.args.k) (IsSource c.args.superblocks.now c.args.tenant.now.slots c.args.k)) (sym c.from_residual.ensures) none
 
-pub first_in-requires-clause-there : goal.first_in-requires-clause-there
-first_in-requires-clause-there c u m at = c.requires.there u m (sym (c.held-slots.ensures.same u) ∙ at)
+pub first-requires : goal.first-requires
+first-requires c = order_in c.args.superblocks.now c.args.tenant.now c.requires.counted c.args.summary.now c.requires.exact c.in_ok-order.order c.in_ok-order.ensures.2
 
-pub returns-in-Some-clause-found : goal.returns-in-Some-clause-found
-returns-in-Some-clause-found c =
-    let same = c.held-slots.ensures.same in
-    let here = c.in-Some.ensures in
-    let order = here.2 in
+pub returns-in_err-slot : goal.returns-in_err-slot
+returns-in_err-slot c =
+    absurd (not_none c.args.superblocks.now c.args.tenant.now c.requires.counted c.args.summary.now c.requires.exact c.in_ok-order.order c.in_ok-order.ensures.2 c.in_err-slot.ensures)
+
+pub returns-in_err-superblock : goal.returns-in_err-superblock
+returns-in_err-superblock c =
+    let is = first_is c.args.superblocks.now c.args.tenant.now c.requires.counted c.args.summary.now c.requires.exact c.in_ok-order.order c.in_ok-order.ensures.2 c.in_ok-slot.slot c.in_ok-slot.ensures in
+    let at = source_slot c.args.superblocks.now (superblock_at c.args.tenant.now c.in_ok-slot.slot) c.in_ok-order.order is in
+    absurd (none-some at.0 (c.in_err-superblock.ensures ∙ ap (superblock_at c.args.tenant.now) c.from.ensures ∙ at.1))
+
+pub returns : goal.returns
+returns c =
+    let xs = c.args.superblocks.now in
+    let at = sym (c.in_ok-superblock.ensures ∙ ap (superblock_at c.args.tenant.now) c.from.ensures) in
+    let is = first_is xs c.args.tenant.now c.requires.counted c.args.summary.now c.requires.exact c.in_ok-order.order c.in_ok-order.ensures.2 c.in_ok-slot.slot c.in_ok-slot.ensures in
     record {
-      at = sym (same c.in-Some.source.slot) ∙ here.0;
-      enough = subst (λ n. c.args.k ≤ n) (sym order) c.in_ok-order.ensures.0;
-      bit = subst (HasBit c.args.superblocks.now c.in-Some.source.superblock) (sym order) here.1;
+      at = at;
+      enough = c.in_ok-order.ensures.0;
+      bit = source_bit xs c.in_ok-superblock.superblock c.in_ok-order.order (ap (is_source xs c.in_ok-order.order) (sym at) ∙ is);
       least = λ i u m le lt there bit.
-          let none = c.in_ok-order.ensures.3 i le (subst (λ n. i < n) order lt) in
+          let none = c.in_ok-order.ensures.3 i le lt in
           let some = (c.requires.counted i).1 (u, m, there, bit) in
           absurd (omega arith);
-      first = λ u m lt there bit.
-          let listed = same u ∙ there in
-          let bit' = subst (HasBit c.args.superblocks.now m) order bit in
-          elim (cases_lt (u / 8) c.in_ok-group.group) [
-            | inl before ↦ c.in_ok-group.ensures.2 (u / 8) before (c.loop-look.invariant.0 c.in_ok-order.order u m listed bit')
-            | inr past ↦ here.4 u m (omega (arith, here.3)) lt listed bit'
-          ];
+      first = first_least xs c.args.tenant.now c.requires.counted c.args.summary.now c.requires.exact c.in_ok-order.order c.in_ok-order.ensures.2 c.in_ok-slot.slot c.in_ok-slot.ensures;
     }
-
-pub returns-in_err-group-clause-found : goal.returns-in_err-group-clause-found
-returns-in_err-group-clause-found c =
-    let has = (c.requires.counted c.in_ok-order.order).0 c.in_ok-order.ensures.2 in
-    let at = c.held-slots.ensures.same has.0 ∙ has.2 in
-    absurd (c.in_err-group.ensures (has.0 / 8) (c.loop-look.invariant.0 c.in_ok-order.order has.0 has.1 at has.3))
-
-pub loop-look-preserved : goal.loop-look-preserved
-loop-look-preserved c =
-    let xs = c.args.superblocks.now in (
-      λ j u m at bit. c.strike.ensures.kept j (u / 8) (λ same here. c.in_default.ensures u m here at (subst (HasBit xs m) same bit)) (c.loop-look.invariant.0 j u m at bit),
-      λ b lt set. elim (cases_lt b c.in_ok-group.group) [
-        | inl before ↦ c.in_ok-group.ensures.2 b before (c.strike.ensures.fewer c.in_ok-order.order b set)
-        | inr past ↦
-            let low : c.loop-look._look ≤ c.in_ok-group.group = elim (cases_lt c.in_ok-group.group c.loop-look._look) [
-              | inl below ↦ absurd (c.loop-look.invariant.1 c.in_ok-group.group below c.in_ok-group.ensures.1)
-              | inr up ↦ up
-            ] in
-            let same : b ≡ c.in_ok-group.group = omega arith in
-            c.strike.ensures.struck (subst (λ n. bit_at (get_or c.strike.new.self c.in_ok-order.order 0) n ≡ 1) same set)
-      ],
-    )
-
-pub returns-clause-found : goal.returns-clause-found
-returns-clause-found c =
-    let has = (c.requires.counted c.in_ok-order.order).0 c.in_ok-order.ensures.2 in
-    let at = c.held-slots.ensures.same has.0 ∙ has.2 in
-    absurd (c.loop-look.invariant.1 (has.0 / 8) (let lt = slot_within c.held-slots.result.now has.0 has.1 at in let few = c.held-slots.ensures.few in omega arith)
-    (c.loop-look.invariant.0 c.in_ok-order.order has.0 has.1 at has.3))

@@ -11,3 +11,4 @@ invariant-loop-level l =
     × (l.self-inside.slots.items ≡ l.initial.self-inside.slots.items)
     × (l.self-inside.taken.items ≡ l.initial.self-inside.taken.items)
     × (l.self-inside.end ≡ l.initial.self-inside.end)
+    × (l.self-inside.held_slots ≡ l.initial.self-inside.held_slots)
