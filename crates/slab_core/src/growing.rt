@@ -97,7 +97,7 @@ impl Slabs {
         };
         self.tables.add_slab(cache.tenant, cache.number, cache.kept, first, machine_frame);
         let colour = self.tables.kept_of(machine_frame).colour;
-        construct(space, cache, first, colour.into());
+        construct(space, cache, first, colour);
         Some(Slab {
             first,
             machine_frame,

@@ -230,7 +230,7 @@ impl Slabs {
         if !self.is_of_cache(cache, slab) {
             return None;
         }
-        let colour = u32::from(self.tables.kept_of(machine_frame).colour);
+        let colour = self.tables.kept_of(machine_frame).colour;
         let index = cache
             .kept
             .layout

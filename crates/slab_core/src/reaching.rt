@@ -103,7 +103,7 @@ impl Slabs {
         };
         let c = self.slab_at(space, t, slab)?;
         let kept = self.tables.cache(t, c).unwrap();
-        let colour = u32::from(self.tables.kept_of(machine_frame).colour);
+        let colour = self.tables.kept_of(machine_frame).colour;
         let index = kept
             .layout
             .holder(colour, place - FRAME_BYTES * first, len)?;

@@ -287,7 +287,7 @@ impl Slabs {
         let index = self.mark_least_free(space, cache, slab);
         // The colour is read here, next to the count that `recount` reads. If it were read before the object is marked, its
         // address would be computed twice.
-        let colour = u32::from(self.tables.kept_of(slab.machine_frame).colour);
+        let colour = self.tables.kept_of(slab.machine_frame).colour;
         self.recount(cache, Object { slab, index }, true);
         Taken {
             place: FRAME_BYTES * slab.first + cache.kept.layout.offset(colour, index),

@@ -17,7 +17,7 @@ pub struct Cache {
 #[derive(Clone, Copy, Debug)]
 pub struct Kept {
     /// The offset of the slab's first object, in bytes.
-    pub colour: u16,
+    pub colour: u32,
     /// The number of live objects in the slab.
     pub live: u16,
     /// For a slab of large objects, one bit for each of its at most 16 objects: 1 if the object is live. The lowest bit is for
@@ -35,7 +35,7 @@ impl Cache {
         self.layout.laws();
         let colour = self.layout.align() * (self.made % self.layout.colours());
         Kept {
-            colour: colour as u16,
+            colour,
             live: 0,
             outside: 0,
         }

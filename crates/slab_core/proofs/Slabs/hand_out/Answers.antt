@@ -15,16 +15,16 @@ use Rattle.slab_core.proofs.TakeFirstFree.{IsLeastFree, object_below, not_live, 
 use Rattle.machine_changes.proofs.ObjectMarked.{marked_shows}
 use Rattle.slab_core.proofs.HandedOutIsLive.{marked_object}
 use Rattle.slab_core.proofs.Slabs.hand_out.Goals as goal
-use Rattle.slab_core.proofs.Slabs.hand_out.Goals.{After-mark_least_free-index, After-from-colour, After-offset}
+use Rattle.slab_core.proofs.Slabs.hand_out.Goals.{After-mark_least_free-index, After-kept_of-colour, After-offset}
 
-pub kept_of-requires : goal.kept_of-requires
-kept_of-requires c =
+pub kept_of-colour-requires : goal.kept_of-colour-requires
+kept_of-colour-requires c =
     subst (λ (s : Content). c.args.slab.machine_frame < length s.lists.places)
     (sym (c.self.view_is ∙ c.mark_least_free-index.ensures.turned.tables)) (machine_frame_within c.requires.slab)
 
-colour_is : (c : After-from-colour) → c.from-colour.result ≡ (kept_at c.args.self.now.kept c.args.slab.machine_frame).colour
+colour_is : (c : After-kept_of-colour) → c.kept_of-colour.result.colour ≡ (kept_at c.args.self.now.kept c.args.slab.machine_frame).colour
 colour_is c =
-    c.from-colour.ensures ∙ (ap (λ (k : Kept). k.colour) c.kept_of.ensures
+    (ap (λ (k : Kept). k.colour) c.kept_of-colour.ensures
     ∙ (ap (λ (s : Content). (kept_at s.kept c.args.slab.machine_frame).colour) c.self.view_is ∙ c.mark_least_free-index.ensures.turned.colour))
 
 -- the slab has a free object
@@ -73,7 +73,7 @@ offset-requires-clause-object c = object_below (next (goal.at.offset-requires-cl
 
 pub offset-requires-clause-colour : goal.offset-requires-clause-colour
 offset-requires-clause-colour c =
-    subst (IsColour c.args.cache.kept.now.layout) (sym (colour_is (goal.at.offset-requires-clause-colour c).After-from-colour))
+    subst (IsColour c.args.cache.kept.now.layout) (sym (colour_is (goal.at.offset-requires-clause-colour c).After-kept_of-colour))
     (c.laws_with.ensures.steady.stands _ _ _ _ c.requires.slab).colour
 
 offset_is : (c : After-offset)
@@ -81,7 +81,7 @@ offset_is : (c : After-offset)
 offset_is c =
     c.offset.ensures
     ∙ ap (λ (n : ℕ). object_offset (layout_numbers c.args.cache.kept.now) n c.mark_least_free-index.result)
-    (colour_is (goal.at.overflow_add-result c).After-from-colour)
+    (colour_is (goal.at.overflow_add-result c).After-kept_of-colour)
 
 pub overflow_add-result : goal.overflow_add-result
 overflow_add-result c =

@@ -6,14 +6,14 @@ use Rattle.slab_tables.specs.Content.{Content, kept_at, layout_numbers}
 use Rattle.slab_core.proofs.SlabFacts.{in_tables}
 use Rattle.slab_core.proofs.SlabOfObject.{no_machine_frame, no_slab, none_begins, not_live}
 use Rattle.slab_core.proofs.Slabs.locate.Goals as goal
-use Rattle.slab_core.proofs.Slabs.locate.Goals.{After-block_around-first, After-from-colour}
+use Rattle.slab_core.proofs.Slabs.locate.Goals.{After-block_around-first, After-kept_of-colour}
 
 first_is : (c : After-block_around-first) → c.block_around-first.result ≡ (around (c.args.place / 4096) (layout_numbers c.args.cache.kept.now).order).first
 first_is c = c.block_around-first.ensures.value ∙ ap (λ k. (around (c.args.place / 4096) k).first) c.order-order.ensures
 
-colour_is : (c : After-from-colour) → c.from-colour.result ≡ (kept_at c.args.self.now.kept c.in_ok-machine_frame.machine_frame).colour
+colour_is : (c : After-kept_of-colour) → c.kept_of-colour.result.colour ≡ (kept_at c.args.self.now.kept c.in_ok-machine_frame.machine_frame).colour
 colour_is c =
-    c.from-colour.ensures ∙ ap (λ (k : Kept). k.colour) c.kept_of.ensures ∙ ap (λ (s : Content). (kept_at s.kept c.in_ok-machine_frame.machine_frame).colour) c.self.view_is
+    ap (λ (k : Kept). k.colour) c.kept_of-colour.ensures ∙ ap (λ (s : Content). (kept_at s.kept c.in_ok-machine_frame.machine_frame).colour) c.self.view_is
 
 pub block_around-first-requires : goal.block_around-first-requires
 block_around-first-requires c =
@@ -39,7 +39,7 @@ returns-in_err-index c =
     rw c.from_residual-in_err-index.ensures
     (none_begins c.requires.parts.1 c.requires.tenant c.requires.cache c.args.place c.block_around-first.result (first_is a.After-block_around-first)
     c.in_ok-machine_frame.machine_frame (sym c.in_ok-machine_frame.ensures.value)
-    (subst (λ (x : ℕ). (i : ℕ) → Begins c.args.cache.kept.now.layout x (c.args.place - 4096 * c.block_around-first.result) i → ⊥) (colour_is a.After-from-colour) c.in_err-index.ensures))
+    (subst (λ (x : ℕ). (i : ℕ) → Begins c.args.cache.kept.now.layout x (c.args.place - 4096 * c.block_around-first.result) i → ⊥) (colour_is a.After-kept_of-colour) c.in_err-index.ensures))
 
 pub returns : goal.returns
 returns c =
@@ -47,7 +47,7 @@ returns c =
     let below = c.block_around-first.ensures.below in
     let under = sym c.in_ok-machine_frame.ensures.value in
     let only : IsOnly (Begins c.args.cache.kept.now.layout (kept_at c.args.self.now.kept c.in_ok-machine_frame.machine_frame).colour (c.args.place - 4096 * c.block_around-first.result)) c.in_ok-index.index =
-    subst (λ (x : ℕ). IsOnly (Begins c.args.cache.kept.now.layout x (c.args.place - 4096 * c.block_around-first.result)) c.in_ok-index.index) (colour_is a.After-from-colour) c.in_ok-index.ensures in
+    subst (λ (x : ℕ). IsOnly (Begins c.args.cache.kept.now.layout x (c.args.place - 4096 * c.block_around-first.result)) c.in_ok-index.index) (colour_is a.After-kept_of-colour) c.in_ok-index.ensures in
     let begins = only.is.begins in record {
       slab = record { cached = c.requires.cache; under = under; listed = sym c.is_of_cache.ensures ∙ c.if-not-is_of_cache.false };
       index = only.is.object;

@@ -100,9 +100,9 @@ returns-clause-free c =
 tables : (c : After-kept_of-colour) → c.add_slab.new.self ≡ with_new_slab c.args.self.now c.args.cache.tenant c.args.cache.number c.args.cache.kept.now c.in_ok-first.first c.in-Some.machine_frame
 tables c = c.add_slab.ensures ∙ ap (λ s. with_new_slab s c.args.cache.tenant c.args.cache.number c.args.cache.kept.now c.in_ok-first.first c.in-Some.machine_frame) c.self.view_is
 
-colour_is : (c : After-construct) → c.into.result ≡ (fresh_kept c.args.cache.kept.now).colour
+colour_is : (c : After-construct) → c.kept_of-colour.result.colour ≡ (fresh_kept c.args.cache.kept.now).colour
 colour_is c =
-    c.into.ensures ∙ ap (λ x. x.colour) (c.kept_of-colour.ensures ∙ ap (λ s. kept_at s.kept c.in-Some.machine_frame) (tables (goal.at.returns-clause-grown c).After-kept_of-colour)
+    ap (λ x. x.colour) (c.kept_of-colour.ensures ∙ ap (λ s. kept_at s.kept c.in-Some.machine_frame) (tables (goal.at.returns-clause-grown c).After-kept_of-colour)
     ∙ kept_now (chosen (goal.at.returns-clause-grown c).In-Some))
 
 pub kept_of-colour-requires : goal.kept_of-colour-requires
@@ -114,7 +114,7 @@ kept_of-colour-requires c =
 pub construct-requires-clause-colour : goal.construct-requires-clause-colour
 construct-requires-clause-colour c = (
   c.args.cache.kept.now.made,
-  c.into.ensures ∙ ap (λ x. x.colour) (c.kept_of-colour.ensures
+  ap (λ x. x.colour) (c.kept_of-colour.ensures
       ∙ ap (λ s. kept_at s.kept c.in-Some.machine_frame) (tables (goal.at.construct-requires-clause-colour c).After-kept_of-colour)
       ∙ kept_now (chosen (goal.at.construct-requires-clause-colour c).In-Some)),
 )
