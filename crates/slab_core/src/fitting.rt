@@ -59,7 +59,7 @@ impl Slabs {
     }
 
     /// Returns the same as [`Slabs::would_fit`], for a caller that has found no free block large enough. The set of blocks that
-    /// the search refuses is stored in `self`, not on the stack.
+    /// the search refuses is the tenant's own set in `self`, not on the stack.
     #[cold]
     #[inline(never)]
     pub(crate) fn fits_by_need(&mut self, space: &Space, buddy: &Buddy, t: u8, k: u8) -> bool
@@ -79,7 +79,7 @@ impl Slabs {
             buddy,
             tenant: t,
         };
-        view.would_fit_in_slabs(&mut self.refused, k)
+        view.would_fit_in_slabs(self.refused[usize::from(t)].as_mut_slice(), k)
     }
 }
 

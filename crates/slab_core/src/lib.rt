@@ -49,6 +49,7 @@ mod returning;
 mod rows;
 mod taking;
 
+use crate::block_set::make_sets;
 use klist_core::Lists;
 pub use model_core::refusals::{DestroyRefusal, GiveRefusal, TakeRefusal};
 pub use model_core::report::CacheRow;
@@ -62,20 +63,26 @@ pub use taking::Taken;
 #[derive(Debug, Drop)]
 pub struct Slabs {
     tables: Tables,
-    /// A set of blocks for the search in `fitting`: the blocks in which it has found a taken frame that lies in no empty slab.
-    /// The set has at least one bit for each frame of the machine, which is enough for the blocks of any order.
-    refused: Vec<u64>,
+    /// For each tenant, a set of blocks for the search in `fitting`: the blocks in which it has found a taken frame that lies in no
+    /// empty slab. A search for a tenant writes only that tenant's set.
+    refused: Vec<Vec<u64>>,
+    /// The number of words in each set of `refused`. A set has at least one bit for each frame of the machine, which is enough for
+    /// the blocks of any order.
+    words: usize,
 }
 
 impl Model for Slabs {
-    ghost use Rattle.std.specs.Prelude.{◌*◌, ◌≤◌, length};
+    ghost use Rattle.std.specs.Prelude.{◌≡◌, ◌*◌, ◌≤◌, All, length, vec_len};
+    ghost use Rattle.model_core.specs.declared.limits.TheConstants.{MAX_CACHES};
     ghost use Rattle.slab_tables.specs.Content.{Content};
 
     ghost Value = { Content };
 
     ghost view = { λ s. s.tables };
 
-    ghost invariant = { λ s. length s.tables.lists.places ≤ 64 * length s.refused.items };
+    ghost invariant = { λ s. (length s.tables.lists.places ≤ 64 * s.words)
+        × (length s.tables.caches ≡ MAX_CACHES * vec_len s.refused)
+        × All (λ row. vec_len row ≡ s.words) s.refused.items };
 }
 
 impl Slabs {
@@ -89,9 +96,11 @@ impl Slabs {
         ensures { IfOk result (λ s. s ≡ empty_tables order superblocks tenants) }
     {
         let frames = usize::from(superblocks) << order;
+        let words = frames.div_ceil(64);
         Ok(Slabs {
             tables: Tables::new(alloc, order, superblocks, tenants)?,
-            refused: vec![in alloc; 0; frames.div_ceil(64)]?,
+            refused: make_sets(alloc, tenants, words)?,
+            words,
         })
     }
 
