@@ -1,7 +1,7 @@
 //! Runs the lines of a trace for a picture.
 
 ghost use Rattle.std.specs.Prelude.{◌≡◌, ◌≢◌, ℕ, ◌+◌, ◌^◌, ◌<◌, ◌≤◌, false, List, Option, Some, length};
-ghost use Rattle.kernel_core.specs.Steps.{is_named};
+ghost use Rattle.world_core.specs.Locks.{is_named};
 ghost use Rattle.frame_picture.specs.Histories.{line_count};
 ghost use Rattle.replay_core.specs.Doing.{HasGone};
 ghost use Rattle.framemap.specs.Watching.{watches};

@@ -26,7 +26,8 @@ use Rattle.kernel_core.specs.Content.{KernelContent, PartsAgree, Keeps}
 use Rattle.kernel_core.specs.Shows.{ShowsMachine, Shows, OneWorld}
 use Rattle.kernel_core.specs.Does.{Does}
 use Rattle.kernel_core.proofs.CallEffects.{keeps_all, marks_kept}
-use Rattle.kernel_core.specs.Steps.{is_named, Steps, StepsMachine}
+use Rattle.world_core.specs.Locks.{is_named}
+use Rattle.kernel_core.specs.Steps.{Steps, StepsMachine}
 use Rattle.machine_changes.proofs.OneMachineShown.{one_machine}
 
 -- if a step keeps everything that tenant t has in the parts, the parts show the same machine for t after the step

@@ -21,8 +21,11 @@ pub mod ShownWellFormed
 pub mod LookupAnswers
 pub mod BlockAnswers
 pub mod Actions
+pub mod ActionsAnyOrder
+pub mod SightsAnyOrder
 pub mod MadeKernels
 pub mod WitnessesActions
+pub mod WitnessesActionLocks
 pub mod WitnessesHolders
 pub mod Witnesses
 pub mod ReportFigures

@@ -11,3 +11,4 @@ pub mod Actions
 pub mod Lending
 pub mod Holders
 pub mod Lookups
+pub mod ActionLocks

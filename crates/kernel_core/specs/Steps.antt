@@ -1,7 +1,6 @@
 -- What an event does to a kernel, and what a tenant's command does to the tenant's part of the kernel.
-use Rattle.std.specs.Prelude.{◌≡◌, ℕ, ◌==◌, Bool, true, false, Result, Ok, Err}
+use Rattle.std.specs.Prelude.{◌≡◌, ℕ, true, false, Result, Ok, Err}
 use Rattle.words_core.specs.declared.reply.Addressee.{Addressee}
-use Rattle.words_core.specs.declared.event.AdminCommand.{AdminCommand}
 use Rattle.words_core.specs.declared.answer.Answer.{Answer}
 use Rattle.words_core.specs.declared.reply.Body.{Body}
 use Rattle.words_core.specs.declared.event.Command.{Command}
@@ -12,20 +11,12 @@ use Rattle.world_core.specs.Limits.{cache_limit}
 use Rattle.world_core.specs.PrivateStep.{command_step}
 use Rattle.world_core.specs.World.{World, world_step}
 use Rattle.world_core.specs.OwnList.{is_refused}
+use Rattle.world_core.specs.Locks.{is_named}
 use Rattle.words_core.specs.Requests.{AsksPattern, body_of_answer}
 use Rattle.space_core.specs.Laws.{SpareStays}
 use Rattle.kernel_core.specs.Content.{KernelContent, SameSizes, MarksFollow, Keeps}
 use Rattle.kernel_core.specs.Does.{Does}
 use Rattle.kernel_core.specs.Shows.{Shows}
-
--- the event names tenant t
-abbrev pub is_named : ℕ → Event → Bool
-is_named t (Event.Tenant tenant command) = tenant == t
-is_named t (Event.Admin (AdminCommand.Grant tenant)) = tenant == t
-is_named t (Event.Admin (AdminCommand.TakeBack tenant slot)) = tenant == t
-is_named t (Event.Admin (AdminCommand.Reset tenant)) = tenant == t
-is_named t (Event.Admin (AdminCommand.Move tenant slot)) = tenant == t
-is_named t (Event.Admin AdminCommand.Pool) = false
 
 -- if the event requests a new cache, the pattern has 1 to 16 bytes
 abbrev pub HasPattern : Event → Type 0

@@ -57,7 +57,8 @@ impl Kernel {
     ghost use Rattle.space_core.specs.Laws.{SpareStays};
     ghost use Rattle.kernel_core.specs.Records.{RecordsStand};
     ghost use Rattle.kernel_core.specs.Shows.{Shows};
-    ghost use Rattle.kernel_core.specs.Steps.{is_named, HasPattern, Steps};
+    ghost use Rattle.world_core.specs.Locks.{is_named};
+    ghost use Rattle.kernel_core.specs.Steps.{HasPattern, Steps};
     ghost use Rattle.words_core.specs.Requests.{command_of, reply_to, HasFewBytes, IsAskable, asks_bytes, has_bytes};
     ghost use Rattle.words_core.specs.declared.event.AdminCommand.TheVariants as AdminCommand;
     ghost use Rattle.words_core.specs.declared.reply.Addressee.TheVariants.{Admin};

@@ -1,6 +1,7 @@
 //! The laws of whole runs, and of the world that a kernel shows. Each law is the contract of an empty function. A proof that
 //! needs the law calls the function.
 
+ghost use Rattle.kernel_core.specs.ActionLocks.{SameWorldAfterActions, SameOutcomesInAnyOrder, SameSightsInAnyOrder, ActionsBegunAsEnded};
 ghost use Rattle.kernel_core.specs.Actions.{OwnSights, SameSights};
 ghost use Rattle.kernel_core.specs.Holders.{OneHolder, ShownWellFormed};
 ghost use Rattle.kernel_core.specs.Shows.{OneWorld};
@@ -16,6 +17,7 @@ pub use words_core::one_case;
 pub use world_core::laws::{
     entries_are_operations, more_caches, nobody_starves, non_interference, own_lines,
     own_lists_are_requests, own_run, own_shown, reached_machines, reached_objects, shown_stays,
+    side_by_side,
 };
 
 /// A kernel shows at most one world. So what the contract of `step` says about each world that the kernel shows holds for the
@@ -64,4 +66,16 @@ pub fn loads_are_own()
 pub fn own_sights()
     ensures own { OwnSights }
     ensures same { SameSights }
+{}
+
+/// An event needs the locks that [`side_by_side`] says. A store, a load and a lookup by place need the lock of their tenant. Suppose
+/// that two kernels show the same world, that a list of actions is done with each, and that for each lock both lists attempt the
+/// same actions that need it, in the same order. Then the kernels show the same world afterwards, under each lock the same actions
+/// have the same outcomes, and each tenant sees the same. If each action holds its locks from its beginning to its end, the order
+/// in which the actions begin and the order in which they end are two such lists.
+pub fn actions_side_by_side()
+    ensures world { SameWorldAfterActions }
+    ensures outcomes { SameOutcomesInAnyOrder }
+    ensures sights { SameSightsInAnyOrder }
+    ensures overlaps { ActionsBegunAsEnded }
 {}

@@ -38,6 +38,22 @@ impl Kernel {
         self.space.machine_of(t, slot)
     }
 
+    /// Returns the slot of tenant `tenant` that uses superblock `superblock`. Returns `None` if no slot of the tenant uses it, also
+    /// if there is no such tenant or superblock. Reads no table that the administrator's calls for other tenants write.
+    #[inline(always)]
+    pub fn slot_under(&self, tenant: u32, superblock: u32) -> Option<u16>
+        ensures { (u : ℕ) → (result ≡ Some u) ↔ (superblock_at self.now tenant u ≡ Some superblock) }
+    {
+        self.laws();
+        let Some(t) = self.tenant(tenant) else {
+            return None;
+        };
+        if superblock >= self.superblocks() {
+            return None;
+        }
+        self.space.slot_under(t, superblock as u16)
+    }
+
     /// Returns the `2^order * 4096` bytes of superblock `superblock`.
     pub fn machine_bytes(&self, superblock: u16) -> &[u8]
         requires { superblock < self.now.superblocks }
