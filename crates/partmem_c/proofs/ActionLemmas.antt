@@ -53,7 +53,7 @@ both_act : (k m k' : KernelContent) (xs ys : List Action) → AllAct k xs m → 
 both_act k m k' [] ys first rest = subst (λ (x : KernelContent). AllAct x ys k') first rest
 both_act k m k' (x ∷ xs) ys first rest = (first.0, first.1, both_act first.0 m k' xs ys first.2 rest)
 
-all_are : (k k' : KernelContent) (all : List Done) → AllDid k all k' → (actions : List Action) × AreOf all actions × AllAct k actions k'
+pub all_are : (k k' : KernelContent) (all : List Done) → AllDid k all k' → (actions : List Action) × AreOf all actions × AllAct k actions k'
 all_are k k' [] did = ([], refl, did)
 all_are k k' (done ∷ all) did =
     let first = done_is k did.0 done did.1 in let rest = all_are did.0 k' all did.2 in (

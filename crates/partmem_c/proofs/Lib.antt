@@ -8,7 +8,9 @@ mod KernelCellSteps
 pub mod TextLemmas
 pub mod CallLemmas
 pub mod ActionLemmas
+pub mod CallsAnyOrder
 pub mod EventLemmas
 mod Witnesses
 mod WitnessesActions
 mod WitnessesCalls
+mod WitnessesCallLocks

@@ -4,6 +4,7 @@ pub mod Events
 pub mod Owners
 pub mod Laws
 pub mod Actions
+pub mod CallLocks
 pub mod Booting
 pub mod Borrowing
 pub mod Calls

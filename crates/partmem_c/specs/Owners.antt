@@ -1,9 +1,9 @@
--- The size of superblocks, and the owner of a superblock as numbers.
+-- The size of superblocks, the owner of a superblock as numbers, and the superblock in a slot.
 use Rattle.std.specs.Prelude.{ℕ, ◌*◌, ◌^◌, nat_lt, not, if◌then◌else◌, List, [], length, Option, Some, None, is_some}
 use Rattle.model_core.specs.declared.limits.TheConstants.{FRAME_BYTES}
 use Rattle.model_core.specs.declared.owner.Owner as model
 use Rattle.space_core.specs.Content.{owner_at}
-use Rattle.kernel_core.specs.Content.{KernelContent}
+use Rattle.kernel_core.specs.Content.{KernelContent, superblock_at}
 use Rattle.partmem_c.specs.declared.owners.Owner.{Owner}
 use Rattle.partmem_c.specs.declared.status.TheConstants.{DONE, NO_MACHINE, NO_SUPERBLOCK}
 
@@ -31,3 +31,8 @@ owner_status held superblock =
 abbrev pub owner_reported : List (Option model.Owner) → ℕ → Option Owner
 owner_reported owners superblock =
     if nat_lt superblock (length owners) then Some (owner_numbers (owner_at owners superblock)) else None
+
+-- the superblock in slot u of tenant t of the held machine; None without a machine
+abbrev pub superblock_held : Option KernelContent → ℕ → ℕ → Option ℕ
+superblock_held None t u = None
+superblock_held (Some k) t u = superblock_at k t u

@@ -3,6 +3,7 @@
 ghost use Rattle.std.specs.Prelude.{◌≡◌, IfSome};
 ghost use Rattle.kernel_core.specs.Stores.{IsKernel};
 ghost use Rattle.partmem_c.specs.Actions.{OwnSightsOfCalls};
+ghost use Rattle.partmem_c.specs.CallLocks.{SameCallsInAnyOrder};
 ghost use Rattle.partmem_c.specs.Calls.{OffsetsAreRefused};
 ghost use Rattle.partmem_c.specs.Laws.{StandsAfterCalls, OwnLinesOfCalls, SameLinesOfCalls, MayChangeThreads};
 
@@ -32,6 +33,17 @@ pub fn own_sights()
     kernel_core::laws::own_sights();
 }
 
+/// An event needs the lock of the tenant that it names, and a command of the administrator also needs the administrator's lock. A
+/// lookup by place, a store and a load need the lock of their tenant. Suppose that two kernels show the same world, that a list of
+/// lines, events, calls, lookups, stores and loads is done with each, and that for each lock both lists attempt the same actions that
+/// need it, in the same order. Then both are lists of actions, which have the same outcomes under each lock. Each tenant sees the
+/// same, and afterwards the kernels show the same world.
+pub fn calls_side_by_side()
+    ensures { SameCallsInAnyOrder }
+{
+    kernel_core::laws::actions_side_by_side();
+}
+
 /// A [`crate::pages::partmem_free`] by an existing tenant at a place that is not a multiple of 4096 is refused with
 /// `NOT_A_BLOCK`.
 pub fn offsets_are_refused()
@@ -49,7 +61,7 @@ pub fn is_kernel(alloc: Global, machine: &mut MachineStorage)
     kernel_core::laws::is_kernel(kernel);
 }
 
-/// The machine that C holds between two calls may be passed to another thread. The caller must make one call at a time.
+/// The machine that C holds between two calls may be passed to another thread. The caller must hold the locks that a call needs.
 pub fn may_change_threads()
     ensures { MayChangeThreads }
 {}

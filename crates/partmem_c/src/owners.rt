@@ -1,8 +1,8 @@
-//! Superblocks: their size and their owners.
+//! Superblocks: their size, their owners, and the slots that use them.
 
-ghost use Rattle.std.specs.Prelude.{◌≡◌, ◌≢◌, IfSome, Some, None};
+ghost use Rattle.std.specs.Prelude.{◌≡◌, ◌≢◌, ◌↔◌, ℕ, IfSome, Some, None};
 ghost use Rattle.space_core.specs.Content.{owner_at};
-ghost use Rattle.partmem_c.specs.Owners.{owner_numbers, owner_status, owner_reported, size_of_superblock};
+ghost use Rattle.partmem_c.specs.Owners.{owner_numbers, owner_status, owner_reported, size_of_superblock, superblock_held};
 
 use crate::calls::block_bytes;
 use crate::machine_storage::MachineStorage;
@@ -19,6 +19,9 @@ pub struct Owner {
     pub tenant: u32,
     pub slot: u32,
 }
+
+/// The slot number of a superblock that no slot of the tenant uses. It is above the number of every slot.
+pub(crate) const OF_NO_SLOT: u32 = u32::MAX;
 
 const NO_OWNER: Owner = Owner {
     is_owned: 0,
@@ -87,4 +90,31 @@ fn owner_reported(kernel: &Kernel, superblock: u32) -> Option<Owner>
             slot: u32::from(owner.slot),
         },
     })
+}
+
+/// Returns the slot of a tenant that uses a superblock, or [`OF_NO_SLOT`] if no slot of the tenant uses it, also if there is no
+/// machine, no such tenant or no such superblock. For the C part of the library, which looks places up by it.
+#[unsafe(no_mangle)]
+pub extern "C" fn partmem_slot_in_kernel(
+    alloc: Global,
+    machine: &mut MachineStorage,
+    tenant: u32,
+    superblock: u32,
+) -> u32
+    ensures slot { (u : ℕ) → u ≢ OF_NO_SLOT → (result ≡ u) ↔ (superblock_held machine.old.cell.held tenant u ≡ Some superblock) }
+    ensures kept { machine.new.cell.held ≡ machine.old.cell.held }
+{
+    let Some(kernel) = machine.kernel() else {
+        return OF_NO_SLOT;
+    };
+    slot_number(kernel, tenant, superblock)
+}
+
+fn slot_number(kernel: &Kernel, tenant: u32, superblock: u32) -> u32
+    ensures { (u : ℕ) → u ≢ OF_NO_SLOT → (result ≡ u) ↔ (superblock_held (Some kernel.now) tenant u ≡ Some superblock) }
+{
+    match kernel.slot_under(tenant, superblock) {
+        Some(slot) => u32::from(slot),
+        None => OF_NO_SLOT,
+    }
 }
