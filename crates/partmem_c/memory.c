@@ -6,13 +6,18 @@
 
 #include "booting.h"
 
-#define PIECE_BYTES ((size_t)16) /* allocations in the tables begin and end at multiples of it */
+#define TABLE_ALIGNMENT 16 /* the tables begin at a multiple of it */
+/* Allocations in the tables begin and end at multiples of it. So no two allocations share a cache line, or a pair of lines that
+ * the processor loads together. */
+#define PIECE_BYTES ((size_t)128)
+#define OF_NO_SLOT 0xffffffffu
 
-/* What this file knows of a machine's memory. After boot a copy lies at the beginning of the tables, and held[2] of the machine
+/* What this file knows of a machine's memory. After boot a copy lies in the first piece of the tables, and held[2] of the machine
  * is its address. The tables may be an array of char, in which C allows no object of another type. So the copy is made and read
  * by memcpy, and never used in place. */
 struct state {
     uint8_t *ram;
+    void *tables;
     uint8_t *next; /* the first free byte of the tables */
     size_t left;   /* how many bytes of the tables are free */
     size_t unit;   /* how many bytes a superblock has */
@@ -21,9 +26,11 @@ struct state {
     void (*release)(void *memory);
 };
 
-/* The functions in Rattle that boot and end a machine. */
+/* The functions in Rattle that boot and end a machine, and the one that returns the slot of a tenant that uses a superblock, or
+ * OF_NO_SLOT if none does. */
 partmem_status partmem_boot_kernel(partmem_machine *machine, const partmem_config *config);
 partmem_status partmem_end_kernel(partmem_machine *machine);
+uint32_t partmem_slot_in_kernel(partmem_machine *machine, uint32_t tenant, uint32_t superblock);
 
 /* ---- The functions by which the kernel allocates ------------------------------------------------------------------------ */
 
@@ -96,15 +103,23 @@ partmem_status partmem_boot_with(partmem_machine *machine, const partmem_config 
 {
     if (machine->held[2]) return PARTMEM_HAS_MACHINE;
     if (!is_bootable(config)) return PARTMEM_BAD_CONFIG;
-    if (!is_aligned(memory->ram, PARTMEM_FRAME_BYTES) || !is_aligned(memory->tables, PIECE_BYTES)) return PARTMEM_BAD_MEMORY;
-    const size_t table_bytes = PARTMEM_TABLE_BYTES(config->order, config->superblocks, config->tenants);
-    struct state state = {memory->ram, memory->tables, table_bytes / PIECE_BYTES * PIECE_BYTES,
-                          PARTMEM_RAM_BYTES(config->order, 1), config->superblocks, config->tenants, 0, release};
+    if (!is_aligned(memory->ram, PARTMEM_FRAME_BYTES) || !is_aligned(memory->tables, TABLE_ALIGNMENT)) return PARTMEM_BAD_MEMORY;
+    const size_t skipped = -(uintptr_t)memory->tables % PIECE_BYTES;
+    const size_t left = PARTMEM_TABLE_BYTES(config->order, config->superblocks, config->tenants) - skipped;
+    struct state state = {memory->ram,
+                          memory->tables,
+                          (uint8_t *)memory->tables + skipped,
+                          left / PIECE_BYTES * PIECE_BYTES,
+                          PARTMEM_RAM_BYTES(config->order, 1),
+                          config->superblocks,
+                          config->tenants,
+                          0,
+                          release};
     booting = &state;
-    (void)allocate_in_tables(sizeof state); /* the place of the copy */
+    const struct allocation copy = allocate_in_tables(sizeof state);
     partmem_status status = partmem_boot_kernel(machine, config);
     booting = NULL;
-    if (status == PARTMEM_DONE) machine->held[2] = memcpy(memory->tables, &state, sizeof state);
+    if (status == PARTMEM_DONE) machine->held[2] = memcpy(copy.at, &state, sizeof state);
     return status;
 }
 
@@ -118,11 +133,10 @@ partmem_status partmem_end(partmem_machine *machine)
     partmem_status status = partmem_end_kernel(machine);
     if (status != PARTMEM_DONE) return status;
     const struct state state = state_of(machine);
-    void *tables = machine->held[2];
     machine->held[2] = NULL;
     if (state.release) {
         state.release(state.ram);
-        state.release(tables);
+        state.release(state.tables);
     }
     return PARTMEM_DONE;
 }
@@ -138,7 +152,6 @@ void *partmem_superblock_address(const partmem_machine *machine, uint32_t superb
 
 partmem_status partmem_find_place(partmem_tenant tenant, const void *at, uint32_t *place)
 {
-    partmem_owner owner;
     *place = 0;
     if (!tenant.machine->held[2]) return PARTMEM_NO_MACHINE;
     const struct state state = state_of(tenant.machine);
@@ -146,8 +159,8 @@ partmem_status partmem_find_place(partmem_tenant tenant, const void *at, uint32_
     const size_t offset = (uintptr_t)at - (uintptr_t)state.ram;
     const size_t superblock = offset >> __builtin_ctzl(state.unit); /* a power of two: a division would take longer */
     if (superblock >= state.superblocks) return PARTMEM_NOT_HELD;
-    partmem_status status = partmem_find_superblock(tenant.machine, (uint32_t)superblock, &owner);
-    if (status != PARTMEM_DONE || !owner.is_owned || owner.tenant != tenant.number) return PARTMEM_NOT_HELD;
-    *place = (uint32_t)(owner.slot * state.unit + (offset & (state.unit - 1)));
+    const uint32_t slot = partmem_slot_in_kernel(tenant.machine, tenant.number, (uint32_t)superblock);
+    if (slot == OF_NO_SLOT) return PARTMEM_NOT_HELD;
+    *place = (uint32_t)(slot * state.unit + (offset & (state.unit - 1)));
     return PARTMEM_DONE;
 }

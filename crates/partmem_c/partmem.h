@@ -6,10 +6,12 @@
  *
  * That is PROVED of the library's source in Rattle, for commands, lookups, loads and stores one after another. Lookups, loads and
  * stores name their bytes by places there, and not by addresses. Numbers of superblocks are the administrator's, and depend on all
- * tenants. TESTED: that an address leads to the bytes of its place, and stays; loads and stores during calls of other threads; the
- * functions in C, which are partmem_boot, partmem_boot_in, partmem_end, partmem_superblock_address, partmem_find_place,
- * partmem_strerror, partmem_version and the three inline functions of this file. NEITHER: that the duties are kept, the hardware,
- * and time. The last comment of this file says each exactly.
+ * tenants. Calls of different tenants may run at the same time, under a lock for each tenant and one for the administrator (duty
+ * 8). PROVED: commands get the same replies in any order that keeps the order under each lock. TESTED: that locks order the calls
+ * that use a byte which one of them stores; that an address leads to the bytes of its place, and stays; loads and stores during
+ * calls of other threads; the functions in C, which are partmem_boot, partmem_boot_in, partmem_end, partmem_superblock_address,
+ * partmem_find_place, partmem_strerror, partmem_version and the three inline functions of this file. NEITHER: that the duties are
+ * kept, the hardware, and time. The last comment of this file says each exactly.
  *
  *     frame       4096 bytes
  *     superblock  2^order frames of RAM: order 3 to 8, superblocks 1 to 256, tenants 1 to 64. Numbered from 0 in a machine.
@@ -203,16 +205,58 @@ typedef struct partmem_memory {
 /* The sizes of a machine's RAM and tables in bytes, of type size_t. Both are constants if the arguments are. */
 #define PARTMEM_RAM_BYTES(order, superblocks) ((size_t)(superblocks) * PARTMEM_FRAME_BYTES << (order))
 #define PARTMEM_TABLE_BYTES(order, superblocks, tenants)                                                                        \
-    (((size_t)4096 << (order)) + 336 + 112 * PARTMEM_POWER_OF_2(superblocks) + 288 * PARTMEM_POWER_OF_2(tenants) +              \
-     (size_t)(superblocks) * (32 + ((size_t)225 << (order)) / 8) + PARTMEM_SET_SIZE(superblocks) +                              \
-     (size_t)(tenants) * (3232 + 4 * PARTMEM_POWER_OF_2(superblocks) + 8 * (size_t)(superblocks) +                              \
-                          PARTMEM_SET_SIZE(superblocks) + 12 * PARTMEM_GROUPS(order, superblocks)))
+    (112 + PARTMEM_OF_MACHINE(order, superblocks, tenants) + (size_t)(superblocks) * PARTMEM_OF_SUPERBLOCK(order) +             \
+     (size_t)(tenants) * PARTMEM_OF_TENANT(order, superblocks))
 
-/* Parts of PARTMEM_TABLE_BYTES: the least power of 2 that is at least 4 and at least n, the bytes of a set of n numbers, and the
- * number of groups of frames. */
+/* Parts of PARTMEM_TABLE_BYTES. Each allocation takes whole pieces of 128 bytes, so no two allocations share a cache line, or a
+ * pair of lines. The first piece begins at most 112 bytes behind the beginning of the tables. */
+#define PARTMEM_PIECES(bytes) (((size_t)(bytes) + 127) / 128 * 128)
+/* What the machine has once: its vectors in the order of their allocation. */
+#define PARTMEM_OF_MACHINE(order, superblocks, tenants)                                                                         \
+    (PARTMEM_PIECES(64)                                                      /* where the memory of the machine lies */         \
+     + PARTMEM_PIECES(6 * (superblocks))                                     /* owners */                                       \
+     + PARTMEM_PIECES(24 * (tenants))                                        /* the tenants' rows of slots */                   \
+     + PARTMEM_PIECES(24 * (tenants))                                        /* their rows of seats */                          \
+     + PARTMEM_SET_SIZE(superblocks)                                         /* superblocks without an owner */                 \
+     + PARTMEM_PIECES(40 * (tenants))                                        /* the tenants' sets of vacant slots */            \
+     + PARTMEM_PIECES(24 * (superblocks))                                    /* stored bytes */                                 \
+     + PARTMEM_PIECES(superblocks)                                           /* marks of stored bytes */                        \
+     + PARTMEM_PIECES((size_t)4096 << (order))                               /* zeroes, read if no bytes are stored */          \
+     + PARTMEM_PIECES(88 * (tenants))                                        /* buddy systems of the tenants */                 \
+     + PARTMEM_PIECES(56 * (tenants))                                        /* their summaries */                              \
+     + PARTMEM_PIECES(56 * (superblocks))                                    /* buddy systems of the superblocks */             \
+     + PARTMEM_PIECES((size_t)(superblocks) * 8 << (order))                  /* states of slabs */                              \
+     + PARTMEM_PIECES((size_t)(tenants) * 1664)                              /* caches, 32 for each tenant */                   \
+     + PARTMEM_PIECES((tenants) * 128)                                       /* their numbers of live objects */                \
+     + PARTMEM_PIECES(tenants)                                               /* the end of each tenant's caches */              \
+     + PARTMEM_PIECES((size_t)(tenants) * 1152)                              /* heads of lists of slabs, 3 for each cache */    \
+     + PARTMEM_PIECES((size_t)(superblocks) * 16 << (order))                 /* nodes of these lists */                         \
+     + PARTMEM_PIECES((tenants) * PARTMEM_GROUPS(order, superblocks) * 12)   /* groups of frames in which a list has slabs */   \
+     + PARTMEM_PIECES(96 * (tenants))                                        /* whether a list is kept in groups */             \
+     + PARTMEM_PIECES(4 * (tenants) * PARTMEM_POWER_OF_2(superblocks))       /* superblocks of slots, as hints */               \
+     + PARTMEM_PIECES(24 * (tenants))                                        /* the tenants' rows of refused blocks */          \
+     + PARTMEM_PIECES(576))                                                  /* the kernel, which has all these vectors */
+/* What it has for each superblock. */
+#define PARTMEM_OF_SUPERBLOCK(order)                                                                                            \
+    (PARTMEM_PIECES(((size_t)4 << (order)) - 2)                              /* words of the tree */                            \
+     + PARTMEM_PIECES((size_t)2 << (order)))                                 /* orders of taken blocks */
+/* What it has for each tenant. */
+#define PARTMEM_OF_TENANT(order, superblocks)                                                                                   \
+    (PARTMEM_PIECES(4 * (superblocks))                                       /* slots, for reads and writes */                  \
+     + PARTMEM_PIECES(2 * (superblocks))                                     /* seats: the slot of each superblock */           \
+     + PARTMEM_SET_SIZE(superblocks)                                         /* vacant slots */                                 \
+     + PARTMEM_PIECES(4 * (superblocks))                                     /* slots, for blocks */                            \
+     + PARTMEM_PIECES(4 * ((order) + 1))                                     /* numbers of free blocks */                       \
+     + PARTMEM_PIECES(4 * ((order) + 1))                                     /* numbers of taken blocks */                      \
+     + ((size_t)(superblocks) + 63) / 64 * 128                               /* sets of slots with free blocks, by order */     \
+     + PARTMEM_PIECES(8 * ((order) + 1))                                     /* which words of these sets are not 0 */          \
+     + PARTMEM_SET_SIZE((size_t)(superblocks) << (order)))                   /* blocks that a search has refused */
+/* The bytes of a set of n numbers, the least power of 2 that is at least n, and the bits of a list that is kept in groups, at
+ * least 64. */
+#define PARTMEM_SET_SIZE(n) PARTMEM_PIECES(((size_t)(n) + 63) / 64 * 8)
 #define PARTMEM_POWER_OF_2(n)                                                                                                   \
-    ((size_t)((n) <= 4 ? 4 : (n) <= 8 ? 8 : (n) <= 16 ? 16 : (n) <= 32 ? 32 : (n) <= 64 ? 64 : (n) <= 128 ? 128 : 256))
-#define PARTMEM_SET_SIZE(n) (((size_t)(n) + 127) / 128 * 16)
+    ((size_t)((n) <= 2 ? (n) : (n) <= 4 ? 4 : (n) <= 8 ? 8 : (n) <= 16 ? 16 : (n) <= 32 ? 32 : (n) <= 64 ? 64                   \
+                                                                                             : (n) <= 128 ? 128 : 256))
 #define PARTMEM_GROUPS(order, superblocks)                                                                                      \
     ((PARTMEM_POWER_OF_2(superblocks) << ((order) > 5 ? (order) - 5 : 0)) > 64                                                  \
          ? (PARTMEM_POWER_OF_2(superblocks) << ((order) > 5 ? (order) - 5 : 0))                                                 \
@@ -259,7 +303,7 @@ PARTMEM_CHECKED partmem_status partmem_move(partmem_tenant tenant, uint32_t slot
 /* Takes back all that the tenant has: page blocks, objects, caches and slots. */
 PARTMEM_CHECKED partmem_status partmem_reset(partmem_tenant tenant);
 
-/* Finds the superblock under a slot. Returns NO_SLOT. */
+/* Finds the superblock under a slot. It needs only the tenant's lock (duty 8). Returns NO_SLOT. */
 PARTMEM_CHECKED partmem_status partmem_find_slot(partmem_tenant tenant, uint32_t slot, partmem_slot *found);
 
 /* Who owns a superblock, and the slot it is under; all 0 without an owner. */
@@ -524,11 +568,21 @@ PARTMEM_CHECKED partmem_status partmem_line(partmem_machine *machine, const char
  *     says what is lost and what stays if a tenant stores its own addresses.
  *  7. Users. If the caller keeps objects of its own in the caches of a tenant, it does not let the tenant's user lend, read,
  *     write, give or destroy there. [The user changes the caller's own objects.]
- *  8. Threads. One call at a time on a machine, from any thread, under a lock of the caller. No call from a signal or interrupt
- *     handler that may have interrupted a call, nor from the forked child of a process with threads. A call that has begun runs
- *     to its end: no longjmp leaves it, and no asynchronous cancellation ends its thread. [Anything: a free frame may stay in two
- *     blocks.] Loads and stores in lent bytes need no lock against calls, with three exceptions: a write to them, a read of them,
- *     and a call that ends their lifetime.
+ *  8. Threads. A machine has a lock for each tenant, and one for its administrator. The locks are the caller's. Calls that need
+ *     the same lock come one at a time, from any thread. Other calls may run at the same time.
+ *     - A call with a tenant, or with its heap, needs the tenant's lock. So do lends, lookups and reports.
+ *     - partmem_grant, partmem_take_back, partmem_move and partmem_reset need the administrator's lock and the tenant's.
+ *     - partmem_find_superblock needs the administrator's lock.
+ *     - partmem_event needs the locks of the call that does the same; for PARTMEM_POOL the administrator's.
+ *     - partmem_line, a boot and partmem_end need all locks of the machine.
+ *     - partmem_superblock_bytes and partmem_superblock_address need no lock between the end of the boot and partmem_end.
+ *       partmem_strerror, partmem_version and partmem_place_of never do. A tenant that the machine does not have has no lock.
+ *     Whoever takes more than one lock takes the administrator's first, and then those of tenants in the order of their numbers.
+ *     [Two threads wait for each other for ever.] One lock in place of several, or of all, is right too.
+ *     No call from a signal or interrupt handler that may have interrupted a call, nor from the forked child of a process with
+ *     threads. A call that has begun runs to its end: no longjmp leaves it, and no asynchronous cancellation ends its thread.
+ *     [Anything: a free frame may stay in two blocks.] Loads and stores in lent bytes need no lock against calls, with three
+ *     exceptions: a write to them, a read of them, and a call that ends their lifetime.
  *  9. Ring 0. SSE is enabled, and the stack is aligned as C requires. A user's xmm registers are saved before the first call and
  *     restored after the last. The direction flag is clear. There are 4096 bytes of stack above a guard page, beside what memcpy,
  *     memmove and memset take. No interrupt uses this stack, since the library also uses the 128 bytes below its stack pointer.
@@ -549,18 +603,25 @@ PARTMEM_CHECKED partmem_status partmem_line(partmem_machine *machine, const char
  *     machine boots: two machines get the same memory.]
  *
  * PROVED of the library's source in Rattle: what each call returns, and what it does to the machine and to each tenant, except
- * for the functions in C; that a store in lent bytes is the write of these bytes, and that a loaded byte is the private machine's
- * at its place; that at most one live block or object has a byte; that over any list of commands (by calls, lines or events),
- * lookups, loads and stores since boot a tenant gets, finds and loads what a private machine gives to it. These lookups are
- * partmem_find_object, partmem_find_block and the three lends, without the address. What partmem_find_slot and
- * partmem_find_superblock return depends on the grants of all tenants, and is in their own contracts. Of addresses: one function
- * makes each partmem_lent that has one, and puts there the address of the first byte that the kernel lends for the tenant, the
- * place and the number in it. That the call returns the value as it was made is read in the source: the loan has ended by then, and no
- * clause can name it. TESTED: that the returned address is that of these bytes and stays,
- * and that nothing is left there from before the grant or move; where superblocks, blocks and objects lie; that only a boot
- * allocates, and no more than the sizes of the macros; the functions in C, which are named in the first comment; loads and stores
- * beside calls on other threads; the stack of each function in libpartmem.a and in the archives for kernels; this file against
- * the library. NEITHER: the duties; hardware, page tables and devices; time and processor caches, and what they reveal. */
+ * for the functions in C; that a store in lent bytes is the write of these bytes, and that a loaded byte is the private
+ * machine's at its place; that at most one live block or object has a byte; that over any list of commands (by calls, lines or
+ * events), lookups, loads and stores since boot a tenant gets, finds and loads what a private machine gives to it. These
+ * lookups are partmem_find_object, partmem_find_block and the three lends, without the address. What partmem_find_slot and
+ * partmem_find_superblock return depends on the grants of all tenants, and is in their own contracts. Of locks: if two lists
+ * have the same commands, lookups, loads and stores under each lock of duty 8, in the same order, they get the same replies and
+ * find and load the same, and both leave the same state of each tenant and the same owner of each superblock. A load or a store
+ * counts as under the lock of its tenant. Of addresses: one function makes each partmem_lent that has one, and puts there the
+ * address of the first byte that the kernel lends for the tenant, the place and the number in it. That the call returns the
+ * value as it was made is read in the source: the loan has ended by then, and no clause can name it.
+ * TESTED: that the returned address is that of these bytes and stays, and that nothing is left there from before the grant or
+ * move; where superblocks, blocks and objects lie; that only a boot allocates, and no more than the sizes of the macros; the
+ * functions in C, which are named in the first comment; loads and stores beside calls on other threads; the stack of each
+ * function in libpartmem.a and in the archives for kernels; this file against the library. TESTED on each load and store that
+ * the runs of tests/side-by-side make: if one call stores a byte that another uses, locks order the two. They share a lock, or
+ * calls between them do, each with the next. So calls at the same time do what calls in some order do, if the compiler and the
+ * processor keep the rules of C for threads.
+ * NEITHER: the duties, so that the locks are held; these rules; hardware, page tables and devices; time and processor caches,
+ * and what they reveal. */
 
 #ifdef __cplusplus
 }

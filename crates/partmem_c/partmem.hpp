@@ -26,8 +26,14 @@
  * After tenant::move() the addresses of objects, pieces and blocks in that slot are stale; page_block::data() lends again.
  *
  * DUTIES. The duties of partmem.h and partmem_heap.h apply. A container stores addresses in its tenant's memory; partmem_heap.h
- * says what is lost by that. Make one call at a time on a machine: with partmem::locked a container locks a mutex for each call.
- * For what is not here, pass get() to the functions in C. If you use partmem_watched.h, include it first. */
+ * says what is lost by that. For what is not here, pass get() to the functions in C. If you use partmem_watched.h, include it
+ * first.
+ *
+ * THREADS. A machine has a mutex of yours for each tenant, and one for its administrator. What is called of a tenant, or of its
+ * page blocks, objects, caches and heaps, needs the tenant's mutex; destructors and containers call too. With partmem::locked a
+ * container locks a mutex for each of its calls. A tenant's constructor, destructor, open(), grant(), take_back(), move() and
+ * reset() need the administrator's mutex and the tenant's: lock the administrator's first. A machine's constructor, destructor,
+ * boot() and end() need all. */
 #ifndef PARTMEM_HPP
 #define PARTMEM_HPP
 
@@ -494,7 +500,7 @@ void deleter<T>::operator()(T *object) const noexcept
     if (heap_->free(object) != status::done) std::abort();
 }
 
-/* A heap that locks a mutex for each call. All users of one machine have to lock the same mutex. */
+/* A heap that locks a mutex for each call. All users of one tenant have to lock the same mutex. */
 template <typename Mutex>
 class locked final : public std::pmr::memory_resource {
 public:

@@ -56,8 +56,9 @@
  * was allocated again; and time. With partmem_watched.h AddressSanitizer and valgrind see most faults of the first two kinds.
  *
  * DUTIES. The duties of partmem.h apply, with two exceptions: config and the address of a piece may be NULL, and an address that
- * is passed may have any value. A call to a heap counts as a call on its machine: make one at a time. Heap and config lie outside
- * of the machine's memory, or in lent bytes whose lifetime does not end while the heap is used. The heap has addresses in it.
+ * is passed may have any value. A call to a heap, also partmem_heap_init, needs the lock of its tenant (duty 8). So heaps of
+ * different tenants may be used at the same time. Heap and config lie outside of the machine's memory, or in lent bytes whose
+ * lifetime does not end while the heap is used. The heap has addresses in it.
  * Only these functions read or write a heap; it may be copied elsewhere if the old copy is not used again. A tenant has one heap:
  * calls to a second heap count as direct calls. Do not use a heap before partmem_heap_init. After a reset of the tenant or the
  * machine's end, do not use it until it is initialised again. A heap that is all 0 may always be used.

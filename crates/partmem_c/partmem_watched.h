@@ -6,8 +6,8 @@
  *     cc -g -fsanitize=address -include partmem_watched.h program.c -lpartmem_watched
  *     cc -g -DPARTMEM_VALGRIND -include partmem_watched.h program.c -lpartmem          and run it under valgrind
  *
- * It then replaces each function that lends bytes, ends their lifetime or uses RAM by one of its own. Without these options it
- * only includes partmem_heap.h.
+ * It then replaces each function that lends bytes, ends their lifetime or uses RAM by one of its own, which needs the same locks.
+ * Without these options it only includes partmem_heap.h.
  *
  * SEEN. These loads and stores are reported when they happen, with their line in the source:
  * - past the last byte of an object, a page block or a piece of a heap, up to the next lent byte. A piece of a heap ends after

@@ -1,4 +1,4 @@
-"""Reads crates/partmem_c/partmem.h, and two functions that memory.c declares, and the exports, structs and constants of the
+"""Reads crates/partmem_c/partmem.h, and three functions that memory.c declares, and the exports, structs and constants of the
 crate's source.
 
 Fails if the header has text that is not compared, or if an export or a struct of the source was not read."""
@@ -18,7 +18,7 @@ FIELDS = {"usage": "use"}
 TENANT = [("machine", "partmem_machine *"), ("tenant", "uint32_t")]
 IN_C = ["partmem_" + name for name in "strerror version boot boot_in end superblock_address find_place".split()]
 # Exports that return a number instead of a status.
-NUMBERS = ["partmem_superblock_bytes"]
+NUMBERS = ["partmem_superblock_bytes", "partmem_slot_in_kernel"]
 ENUM = re.compile(r"(?:typedef )?enum (?:\w+ )?\{([^{}]*)\}(?: (\w+))?;")
 STRUCT = re.compile(r"typedef struct (\w+) \{([^{}]*)\} (\w+);")
 FUNCTION = re.compile(r"(?:PARTMEM_CHECKED )?(partmem_status|uint32_t|void \*|const char \*) ?(\w+)\(([^()]*)\);")

@@ -140,7 +140,7 @@ IS(&partmem_heap_place, uint32_t (*)(const partmem_heap *, const void *));
 /* The sizes of the RAM and of the tables are constants of type size_t. */
 IS(PARTMEM_RAM_BYTES(8u, 256u), size_t);
 IS(PARTMEM_TABLE_BYTES(8u, 256u, 64u), size_t);
-_Static_assert(PARTMEM_RAM_BYTES(8, 256) == 256 << 20 && PARTMEM_TABLE_BYTES(8, 256, 64) < 5 << 20, "another size");
+_Static_assert(PARTMEM_RAM_BYTES(8, 256) == 256 << 20 && PARTMEM_TABLE_BYTES(8, 256, 64) < 6 << 20, "another size");
 
 /* Enums have 32 bits. The longest reply to a line is the reply to `admin pool`: a first line, and a line for each of at most 256
  * superblocks. Each of these lines has at most 256 bytes. A read returns at most 64 bytes. */
