@@ -12,8 +12,8 @@ FROM_SOURCES := structure documents diagrams pages witnesses edits helps threads
 OVER_PROGRAMS := hostile-bytes refused-memory instructions conformance findings plain-machine pictures picture-page machines \
     command-lines partcheck examples
 #   the library for C, and some of them the programs too:
-OVER_LIBRARY := same-path kernel-archives objtool in-place heap watched cpp use-from-c pasted demo-kernel linux rust \
-    other-targets costs stack install browser-page
+OVER_LIBRARY := same-path kernel-archives objtool in-place heap watched parallel cpp use-from-c pasted demo-kernel linux rust \
+    other-targets side-by-side costs stack install browser-page
 CHECKS := $(addprefix check-,$(FROM_SOURCES) $(OVER_PROGRAMS) $(OVER_LIBRARY))
 .PHONY: list list-tests try unproved quick prove test check tools proved library browser install uninstall release bench \
     soak $(CHECKS)
