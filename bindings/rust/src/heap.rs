@@ -64,7 +64,7 @@ impl RawHeap {
     /// Destroys the heap's caches, except those that still have a live object. Such an object was leaked.
     fn close(&mut self, tenant: sys::Tenant) {
         for cache in self.0.get_mut().cache_of.iter().filter(|cache| **cache > 0) {
-            // SAFETY: the machine is booted, and no other call of it runs. Nothing of a cache without live objects is used.
+            // SAFETY: the machine is booted, and the call's locks are held. Nothing of a cache without live objects is used.
             let _ = unsafe { sys::partmem_destroy_cache(tenant, u32::from(*cache) - 1) };
         }
     }

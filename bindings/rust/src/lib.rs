@@ -7,13 +7,15 @@
 //!
 //! The build looks for `libpartmem.a` in `PARTMEM_DIR`, an absolute path of the installation or of its `lib`. If `PARTMEM_DIR` is
 //! not set, it looks in the folder that pkg-config names, and then in the repository, where `make test` builds the library. If it
-//! finds no `libpartmem.a`, it links, with a warning, the unproved library that `make unproved` builds.
+//! finds no `libpartmem.a`, it links, with a warning, the unproved library that `tools/unproved library` builds. For AArch64 and
+//! 64-bit RISC-V it links `libpartmem_arm64.a` or `libpartmem_riscv64.a` instead.
 //!
 //! | You want | Use |
 //! |---|---|
 //! | bytes, and links between them that stay through moves | [`Machine::alloc`], [`Machine::take`]: handles, below |
 //! | values of a type, with `Deref` and `Drop` | [`Client::cache_of`] for many of one type, [`Heap::boxed`] for any |
 //! | to reset or move one tenant while others use what they have | [`Machine::split`] |
+//! | tenants that call at the same time, each on a thread of its own | [`Machine::threads`] |
 //! | `Vec`, `String`, `BTreeMap` in a tenant's memory | [`Global`] for a whole program; [`Heap`] with the feature `allocator_api` |
 //! | memory that is a static, or that a kernel has found | [`Machine::boot_in`], [`StaticMemory`], [`Memory`] |
 //!
@@ -23,7 +25,8 @@
 //!   only `core`, and its user provides `memcpy`, `memmove` and `memset`, for example by the crate `compiler_builtins`.
 //! - `allocator_api`: `&Heap` is an `Allocator`. That needs a nightly compiler. The crate `allocator-api2` is not used, since
 //!   this crate depends on no other.
-//! - `kernel`: the library is `libpartmem_kernel.a`, which uses no red zone and no vector registers.
+//! - `kernel`: the library is `libpartmem_kernel.a`, which uses no red zone and no vector registers, or for AArch64 and RISC-V
+//!   `libpartmem_kernel_arm64.a` or `libpartmem_kernel_riscv64.a`.
 //!
 //! # Bytes
 //!
@@ -63,9 +66,10 @@
 //!   on another machine, the call fails with [`Error::Stale`].
 //! - Links between objects are places, stored as numbers in lent bytes. [`Machine::lend_at`] follows them. It needs
 //!   `&mut Machine`, since a handle of the same bytes may be lent.
-//! - A machine is `Send` and not `Sync`, since calls are made one at a time: threads share a `Mutex<Machine>`. Then a lend
-//!   borrows the lock's guard. Without a mutex, other threads of a scope may use lent bytes while the machine's own thread makes
-//!   calls.
+//! - A machine is `Send` and not `Sync`: threads share a `Mutex<Machine>`, and a lend borrows the lock's guard. Without a mutex,
+//!   other threads of a scope may use lent bytes while the machine's own thread makes calls.
+//! - [`Machine::threads`] divides a machine into a [`Steward`] and one [`Worker`] for each tenant, which may be sent to threads of
+//!   their own. Their calls run at the same time without a lock.
 //! - A move or a reset of one client requires that nobody's bytes are lent, which is stricter than the library. After a
 //!   [`Machine::split`] it requires only that none of this client's bytes are lent.
 //!
@@ -138,6 +142,73 @@
 //! fn send<T: Send>(_: T) {}
 //! fn f(heap: partmem::Heap<'static>) { send(heap); }
 //! ```
+//! ```compile_fail,E0277
+//! fn send<T: Send>(_: T) {}
+//! fn f(client: partmem::Client<'static>) { send(client); }
+//! ```
+//! ```compile_fail,E0499
+//! # fn f(mut machine: partmem::Machine) -> Result<(), partmem::Error> {
+//! let (one, same) = (machine.threads().1.next().unwrap(), machine.threads().1.next().unwrap());
+//! one.alloc(0)?;
+//! # Ok(()) }
+//! ```
+//! ```compile_fail,E0382
+//! # fn f(worker: partmem::Worker<'_>) {
+//! std::thread::scope(|threads| {
+//!     threads.spawn(move || worker.reap());
+//!     threads.spawn(move || worker.reap());
+//! });
+//! # }
+//! ```
+//! ```compile_fail,E0277
+//! # fn f(worker: partmem::Worker<'_>) {
+//! std::thread::scope(|threads| {
+//!     threads.spawn(|| worker.reap()); // shares the worker with the new thread
+//! });
+//! # }
+//! ```
+//! ```compile_fail,E0277
+//! # fn f(worker: partmem::Worker<'_>) {
+//! let client: &partmem::Client<'_> = &worker;
+//! std::thread::scope(|threads| {
+//!     threads.spawn(move || client.reap());
+//! });
+//! # }
+//! ```
+//! ```compile_fail,E0596
+//! # fn f(mut worker: partmem::Worker<'_>, mut of_another_machine: partmem::Client<'_>) {
+//! std::mem::swap(&mut *worker, &mut of_another_machine);
+//! # }
+//! ```
+//! ```compile_fail,E0499
+//! # fn f(mut steward: partmem::Steward<'_>, mut one: partmem::Worker<'_>, mut other: partmem::Worker<'_>) {
+//! std::thread::scope(|threads| {
+//!     threads.spawn(|| steward.grant(&mut one));
+//!     threads.spawn(|| steward.grant(&mut other));
+//! });
+//! # }
+//! ```
+//! ```compile_fail,E0277
+//! fn share<T: Sync>(_: T) {}
+//! fn f(steward: partmem::Steward<'static>) { share(steward); }
+//! ```
+//! ```compile_fail,E0505
+//! # fn f(mut steward: partmem::Steward<'_>, mut worker: partmem::Worker<'_>) {
+//! std::thread::scope(|threads| {
+//!     let of = &mut worker;
+//!     threads.spawn(move || worker.reap());
+//!     steward.reset(of);
+//! });
+//! # }
+//! ```
+//! ```compile_fail,E0502
+//! # fn f(mut steward: partmem::Steward<'_>, mut worker: partmem::Worker<'_>) -> Result<(), partmem::Error> {
+//! let cache = worker.cache_of()?;
+//! let value = cache.take(1)?;
+//! steward.reset(&mut worker)?; // or a move
+//! assert_eq!(*value, 1);
+//! # Ok(()) }
+//! ```
 //!
 //! # What types cannot keep
 //!
@@ -170,6 +241,7 @@ mod machine;
 mod memory;
 mod sys;
 mod tenants;
+mod threads;
 pub mod typed;
 
 pub use error::{Error, Refusal};
@@ -178,6 +250,7 @@ pub use heap::{Boxed, Heap, OwnedHeap};
 pub use machine::{Block, Cache, Handle, Machine, Object, OfCache, PageBlock};
 pub use memory::{Memory, StaticMemory};
 pub use tenants::{Administrator, Client, Clients};
+pub use threads::{Steward, Worker, Workers};
 
 /// The number of a tenant, from 0.
 #[derive(Clone, Copy, Debug, PartialEq, Eq, PartialOrd, Ord, Hash)]

@@ -1,6 +1,12 @@
 //! The machine and the handles of its blocks and objects. Only this module makes slices of lent bytes from addresses.
+//!
+//! A call of the library needs the lock of its tenant, the administrator's, or both: `partmem.h` says which (duty 8). References
+//! are these locks. A [`Machine`] is not `Sync`, so one thread makes its calls, and holds all locks. If the machine is divided by
+//! [`Machine::threads`], a tenant's call needs the tenant's only [`Worker`](crate::Worker), which is not `Sync`, and a call of the
+//! administrator needs `&mut` of the only [`Steward`](crate::Steward) and a reference to this worker.
 use crate::memory::{alone, Memory, Region};
 use crate::{error::done, sys, Administrator, Client, Clients, Config, Error, Figures, Place, Slot, Tenant};
+use crate::{Steward, Workers};
 use core::cell::Cell;
 use core::ptr::{self, NonNull};
 use core::sync::atomic::{AtomicU64, Ordering};
@@ -26,7 +32,7 @@ pub(crate) fn result<T: Default>(call: impl FnOnce(&mut T) -> u32) -> Result<T, 
 pub struct Handle<Kind> {
     /// The stamp that the tenant had when the handle was made. A reset gives the tenant a new one.
     stamp: u64,
-    /// How many moves had been requested of the machine when `at` was found.
+    /// How many moves had been requested of the tenant when `at` was found.
     moves: u64,
     at: *mut u8,
     pub(crate) tenant: Tenant,
@@ -84,14 +90,16 @@ pub struct Machine {
     /// The memory that [`Machine::boot`] has allocated.
     #[cfg(feature = "std")]
     owned: Option<Region>,
-    /// The stamp of each tenant. A reset gives the tenant a new one, so that older handles are refused.
+    /// The stamp of each tenant. A reset gives the tenant a new one, so that older handles are refused. An element is used under
+    /// the lock of its tenant.
     stamps: [Cell<u64>; MAX_TENANTS],
-    /// How many moves have been requested, including refused ones. If a handle has the same number, its address is right.
-    moves: Cell<u64>,
+    /// How many moves of each tenant have been requested, including refused ones. If a handle has the same number, its address is
+    /// right. An element is used under the lock of its tenant.
+    moves: [Cell<u64>; MAX_TENANTS],
 }
 
-// SAFETY: calls may come from any thread, one at a time. They need a reference, and a machine is not `Sync`. Its memory is
-// reached only through it.
+// SAFETY: calls may come from any thread. They need a reference, and a machine is not `Sync`, so they come one at a time. Its
+// memory is reached only through it.
 unsafe impl Send for Machine {}
 
 impl Machine {
@@ -143,7 +151,7 @@ impl Machine {
             #[cfg(feature = "std")]
             owned: None,
             stamps,
-            moves: Cell::new(0),
+            moves: [(); MAX_TENANTS].map(|()| Cell::new(0)),
         })
     }
 
@@ -161,13 +169,13 @@ impl Machine {
 
     /// Grants the first superblock without an owner, under the first slot that the tenant does not hold. All its bytes are zero.
     pub fn grant(&self, tenant: Tenant) -> Result<Slot, Error> {
-        // SAFETY: the machine is booted, no other call of it runs, and the result goes to a local variable.
+        // SAFETY: the machine is booted, the call's locks are held, and the result goes to a local variable.
         result(|slot| unsafe { sys::partmem_grant(self.of(tenant), slot) })
     }
 
     /// Takes back a slot whose frames are all free, so nothing in it is lent.
     pub fn take_back(&self, tenant: Tenant, slot: u32) -> Result<(), Error> {
-        // SAFETY: the machine is booted, and no other call of it runs. Nothing is lent in a slot whose frames are all free.
+        // SAFETY: the machine is booted, and the call's locks are held. Nothing is lent in a slot whose frames are all free.
         done(unsafe { sys::partmem_take_back(self.of(tenant), slot) })
     }
 
@@ -180,8 +188,10 @@ impl Machine {
     /// # Safety
     /// Nothing of the tenant is lent.
     pub(crate) unsafe fn move_shared(&self, tenant: Tenant, slot: u32) -> Result<Slot, Error> {
-        self.moves.set(self.moves.get() + 1);
-        // SAFETY: as said above. The machine is booted, no other call of it runs, and the result goes to a local variable.
+        if let Some(moves) = self.moves.get(tenant.0 as usize) {
+            moves.set(moves.get() + 1);
+        }
+        // SAFETY: as said above. The machine is booted, the call's locks are held, and the result goes to a local variable.
         result(|moved| unsafe { sys::partmem_move(self.of(tenant), slot, moved) })
     }
 
@@ -194,7 +204,7 @@ impl Machine {
     /// # Safety
     /// Nothing of the tenant is lent.
     pub(crate) unsafe fn reset_shared(&self, tenant: Tenant) -> Result<(), Error> {
-        // SAFETY: as said above. The machine is booted, and no other call of it runs.
+        // SAFETY: as said above. The machine is booted, and the call's locks are held.
         done(unsafe { sys::partmem_reset(self.of(tenant)) })?;
         self.stamps[tenant.0 as usize].set(new_stamp());
         Ok(())
@@ -221,6 +231,30 @@ impl Machine {
         (Administrator::new(self), Clients::new(self, None))
     }
 
+    /// Divides the machine into its administrator and its tenants, as [`Machine::split`] does, for calls on several threads at the
+    /// same time. No lock is needed: each tenant has one [`Worker`], and the administrator borrows the worker of the tenant that it
+    /// names.
+    ///
+    /// ```
+    /// # use partmem::{Config, Machine};
+    /// # fn main() -> Result<(), partmem::Error> {
+    /// # let mut machine = Machine::boot(Config { order: 3, superblocks: 4, tenants: 3 })?;
+    /// let (mut steward, mut workers) = machine.threads();
+    /// let (ada, bob, mut eve) = (workers.next().unwrap(), workers.next().unwrap(), workers.next().unwrap());
+    /// std::thread::scope(|threads| {
+    ///     for worker in [ada, bob] {
+    ///         steward.grant(&worker).unwrap();
+    ///         threads.spawn(move || worker.alloc(0).unwrap());
+    ///     }
+    ///     steward.grant(&eve).unwrap();
+    ///     steward.reset(&mut eve).unwrap();
+    /// });
+    /// # Ok(()) }
+    /// ```
+    pub fn threads(&mut self) -> (Steward<'_>, Workers<'_>) {
+        (Steward::new(self), Workers::new(self))
+    }
+
     /// Returns one tenant of the machine. Fails with `NoTenant`.
     pub fn client(&mut self, tenant: Tenant) -> Result<Client<'_>, Error> {
         self.split().1.nth(tenant.0 as usize).ok_or_else(|| crate::Refusal::NoTenant.into())
@@ -233,13 +267,14 @@ impl Machine {
 
     fn hold<Kind>(&self, tenant: Tenant, lent: sys::Lent, kind: Kind) -> Handle<Kind> {
         let sys::Lent { at, place, bytes, .. } = lent;
-        Handle { stamp: self.stamps[tenant.0 as usize].get(), moves: self.moves.get(), at, tenant, place, bytes, kind }
+        let (stamp, moves) = (self.stamps[tenant.0 as usize].get(), self.moves[tenant.0 as usize].get());
+        Handle { stamp, moves, at, tenant, place, bytes, kind }
     }
 
     /// Allocates 2^order frames. A frame has the bytes that it had when its last page block was freed. If it was in no page block
     /// since the grant, or has been in a slab since its last page block, it has zeroes.
     pub fn alloc(&self, tenant: Tenant, order: u32) -> Result<Block, Error> {
-        // SAFETY: the machine is booted, no other call of it runs, and the result goes to a local variable.
+        // SAFETY: the machine is booted, the call's locks are held, and the result goes to a local variable.
         let lent = result(|lent| unsafe { sys::partmem_alloc(self.of(tenant), order, lent) })?;
         Ok(self.hold(tenant, lent, PageBlock(())))
     }
@@ -247,7 +282,7 @@ impl Machine {
     /// Frees a page block. A block of another machine is refused, and stays allocated there.
     pub fn free(&self, block: Block) -> Result<(), Error> {
         let tenant = self.check(block.tenant, block.stamp)?;
-        // SAFETY: the machine is booted, and no other call of it runs. The block is not lent, since lends borrow its handle.
+        // SAFETY: the machine is booted, and the call's locks are held. The block is not lent, since lends borrow its handle.
         done(unsafe { sys::partmem_free(tenant, block.place) })
     }
 
@@ -260,7 +295,7 @@ impl Machine {
         // Copies the pattern: it may lie in lent bytes, and no argument of the library may lie there.
         let (mut copy, of, bytes) = ([0; MAX_PATTERN], self.of(tenant), pattern.len());
         copy[..bytes].copy_from_slice(pattern);
-        // SAFETY: the machine is booted, no other call of it runs, and the result goes to a local variable. The copy has at
+        // SAFETY: the machine is booted, the call's locks are held, and the result goes to a local variable. The copy has at
         // least `bytes` bytes.
         let made: sys::Cache =
             result(|made| unsafe { sys::partmem_make_cache(of, size, align, copy.as_ptr(), bytes, made) })?;
@@ -270,7 +305,7 @@ impl Machine {
     /// Destroys a cache without live objects, and frees its slabs. The cache is stale afterwards.
     pub fn destroy_cache(&self, cache: &mut Cache) -> Result<(), Error> {
         let tenant = self.check(cache.tenant, cache.stamp)?;
-        // SAFETY: the machine is booted, and no other call of it runs. Nothing of a cache without live objects is lent.
+        // SAFETY: the machine is booted, and the call's locks are held. Nothing of a cache without live objects is lent.
         done(unsafe { sys::partmem_destroy_cache(tenant, cache.number) })?;
         cache.stamp = new_stamp();
         Ok(())
@@ -280,7 +315,7 @@ impl Machine {
     /// was given back.
     pub fn take(&self, cache: &Cache) -> Result<Object, Error> {
         let tenant = self.check(cache.tenant, cache.stamp)?;
-        // SAFETY: the machine is booted, no other call of it runs, and the result goes to a local variable.
+        // SAFETY: the machine is booted, the call's locks are held, and the result goes to a local variable.
         let lent = result(|lent| unsafe { sys::partmem_take(tenant, cache.number, lent) })?;
         Ok(self.hold(cache.tenant, lent, OfCache(cache.number)))
     }
@@ -288,31 +323,31 @@ impl Machine {
     /// Gives back an object. An object of another machine is refused, and stays taken there.
     pub fn give(&self, object: Object) -> Result<(), Error> {
         let tenant = self.check(object.tenant, object.stamp)?;
-        // SAFETY: the machine is booted, and no other call of it runs. The object is not lent, since lends borrow its handle.
+        // SAFETY: the machine is booted, and the call's locks are held. The object is not lent, since lends borrow its handle.
         done(unsafe { sys::partmem_give(tenant, object.kind.0, object.place) })
     }
 
     /// Frees the empty slabs of all caches of a tenant, as an `alloc` or a `take` does on demand. Returns how many frames these
     /// slabs had.
     pub fn reap(&self, tenant: Tenant) -> Result<u32, Error> {
-        // SAFETY: the machine is booted, no other call of it runs, and the result goes to a local variable.
+        // SAFETY: the machine is booted, the call's locks are held, and the result goes to a local variable.
         result(|frames| unsafe { sys::partmem_reap(self.of(tenant), frames) })
     }
 
     /// Reports the figures of a tenant.
     pub fn report(&self, tenant: Tenant) -> Result<Figures, Error> {
-        // SAFETY: the machine is booted, no other call of it runs, and the result goes to a local variable.
+        // SAFETY: the machine is booted, the call's locks are held, and the result goes to a local variable.
         result(|figures| unsafe { sys::partmem_report(self.of(tenant), figures) })
     }
 
     fn address(&self, tenant: sys::Tenant, place: Place, bytes: u32) -> Result<*mut u8, Error> {
-        // SAFETY: the machine is booted, no other call of it runs, and the result goes to a local variable.
+        // SAFETY: the machine is booted, the call's locks are held, and the result goes to a local variable.
         result(|lent: &mut sys::Lent| unsafe { sys::partmem_lend(tenant, place, bytes, lent) }).map(|lent| lent.at)
     }
 
     fn address_of<Kind>(&self, handle: &Handle<Kind>) -> Result<*mut u8, Error> {
         let tenant = self.check(handle.tenant, handle.stamp)?;
-        if handle.moves == self.moves.get() {
+        if handle.moves == self.moves[handle.tenant.0 as usize].get() {
             Ok(handle.at)
         } else {
             self.address(tenant, handle.place, handle.bytes)
@@ -330,7 +365,7 @@ impl Machine {
     /// Lends the bytes of a block or an object for reading and writing.
     pub fn lend_mut<'a, Kind>(&'a self, handle: &'a mut Handle<Kind>) -> Result<&'a mut [u8], Error> {
         handle.at = self.address_of(handle)?;
-        handle.moves = self.moves.get();
+        handle.moves = self.moves[handle.tenant.0 as usize].get();
         // SAFETY: as in `lend`. Nobody else has these bytes: no other handle leads to them, and `lend_at` needs the machine
         // unborrowed.
         Ok(unsafe { slice::from_raw_parts_mut(handle.at, handle.bytes as usize) })

@@ -9,13 +9,14 @@ use core::{fmt, hint};
 const FRAME_BYTES: usize = 4096;
 const TABLE_ALIGN: usize = 16;
 
-/// Returns the least power of 2 that is at least 4 and at least this number.
-const fn power_of_2(number: usize) -> usize {
-    if number <= 4 {
-        4
-    } else {
-        number.next_power_of_two()
-    }
+/// Returns how many bytes an allocation in the tables takes: whole pieces of 128 bytes.
+const fn pieces(bytes: usize) -> usize {
+    (bytes + 127) / 128 * 128
+}
+
+/// Returns how many bytes a set of this many numbers takes, with one bit for each.
+const fn set_size(numbers: usize) -> usize {
+    pieces((numbers + 63) / 64 * 8)
 }
 
 impl Config {
@@ -30,19 +31,48 @@ impl Config {
         self.superblocks as usize * (FRAME_BYTES << self.order)
     }
 
-    /// Returns how many bytes the library's tables have: `PARTMEM_TABLE_BYTES` of the header.
+    /// Returns how many bytes the library's tables have: `PARTMEM_TABLE_BYTES` of the header, whose comments name each part.
     const fn library_bytes(self) -> usize {
+        let (order, superblocks, tenants) = (self.order, self.superblocks as usize, self.tenants as usize);
+        let set = set_size(superblocks);
+        let sets_of_slots = (superblocks + 63) / 64 * 128 + pieces(8 * (order as usize + 1));
+        let of_superblock = pieces((4 << order) - 2) + pieces(2 << order);
+        let of_tenant = pieces(4 * superblocks)
+            + pieces(2 * superblocks)
+            + set
+            + pieces(4 * superblocks)
+            + 2 * pieces(4 * (order as usize + 1))
+            + sets_of_slots
+            + set_size(superblocks << order);
+        112 + self.of_machine(set) + superblocks * of_superblock + tenants * of_tenant
+    }
+
+    /// Returns how many bytes of the tables a machine has once: `PARTMEM_OF_MACHINE` of the header. A set of superblocks has
+    /// `set` bytes.
+    const fn of_machine(self, set: usize) -> usize {
         let (superblocks, tenants) = (self.superblocks as usize, self.tenants as usize);
-        let of_all = power_of_2(superblocks) << self.order.saturating_sub(5);
+        let frames = superblocks << self.order;
+        let of_all = superblocks.next_power_of_two() << self.order.saturating_sub(5);
         let groups = if of_all > 64 { of_all } else { 64 };
-        let set_bytes = (superblocks + 127) / 128 * 16;
-        (FRAME_BYTES << self.order)
-            + 336
-            + 112 * power_of_2(superblocks)
-            + 288 * power_of_2(tenants)
-            + superblocks * (32 + (225 << self.order) / 8)
-            + set_bytes
-            + tenants * (3232 + 4 * power_of_2(superblocks) + 8 * superblocks + set_bytes + 12 * groups)
+        let space = pieces(6 * superblocks)
+            + 2 * pieces(24 * tenants)
+            + set
+            + pieces(40 * tenants)
+            + pieces(24 * superblocks)
+            + pieces(superblocks)
+            + pieces(FRAME_BYTES << self.order);
+        let buddy = pieces(88 * tenants) + pieces(56 * tenants) + pieces(56 * superblocks);
+        let slabs = pieces(8 * frames)
+            + pieces(1664 * tenants)
+            + pieces(128 * tenants)
+            + pieces(tenants)
+            + pieces(1152 * tenants)
+            + pieces(16 * frames)
+            + pieces(12 * tenants * groups)
+            + pieces(96 * tenants)
+            + pieces(4 * tenants * superblocks.next_power_of_two())
+            + pieces(24 * tenants);
+        pieces(64) + space + buddy + slabs + pieces(576)
     }
 
     /// Returns the offset of the `partmem_machine` in the tables, in bytes. It lies after the library's part.
@@ -50,7 +80,7 @@ impl Config {
         (self.library_bytes() + TABLE_ALIGN - 1) / TABLE_ALIGN * TABLE_ALIGN
     }
 
-    /// Returns how many bytes of tables a machine has: those of the header's `PARTMEM_TABLE_BYTES`, and 24 to 39 for this crate.
+    /// Returns how many bytes of tables a machine has: those of the header's `PARTMEM_TABLE_BYTES`, and 24 for this crate.
     pub const fn table_bytes(self) -> usize {
         self.machine_offset() + size_of::<sys::Machine>()
     }

@@ -6,7 +6,8 @@ use core::{fmt, ptr};
 #[derive(Clone, Copy)]
 pub struct Administrator<'a>(&'a Machine);
 
-/// The only client of a tenant, in a machine that is divided by [`Machine::split`]. Code that has it acts only for this tenant.
+/// The only client of a tenant, in a machine that is divided by [`Machine::split`]. Code that has it acts only for this tenant. A
+/// [`Worker`](crate::Worker) derefs to it.
 ///
 /// It has the calls of [`Machine`] that a tenant makes. A lend borrows the client. A call with a handle or a [`Cache`] of another
 /// tenant fails with [`Error::Stale`].
@@ -60,7 +61,7 @@ impl Administrator<'_> {
         unsafe { self.0.reset_shared(client.tenant) }
     }
 
-    fn check(&self, client: &Client<'_>) -> Result<(), Error> {
+    pub(crate) fn check(&self, client: &Client<'_>) -> Result<(), Error> {
         ptr::eq(self.0, client.machine).then_some(()).ok_or(Error::Stale)
     }
 }

@@ -52,7 +52,7 @@ impl<'c, T> Cache<'c, T> {
 
     /// Takes an object, then makes a value and writes it to the object. Fails with `NoFrames`.
     pub fn take_with(&self, make: impl FnOnce() -> T) -> Result<Object<'_, T>, Error> {
-        // SAFETY: the machine is booted, no other call of it runs, and the result goes to a local variable.
+        // SAFETY: the machine is booted, the call's locks are held, and the result goes to a local variable.
         let lent: sys::Lent = result(|lent| unsafe { sys::partmem_take(self.tenant(), self.cache.number, lent) })?;
         // SAFETY: the call has lent bytes, whose address is never null.
         let at = unsafe { NonNull::new_unchecked(lent.at.cast::<T>()) };

@@ -263,7 +263,7 @@ fn memory_that_is_too_small_or_not_aligned_is_refused() {
 
 /// The sum of `PARTMEM_TABLE_BYTES` over all sizes of a machine, each rounded up to a multiple of 16. tests/rust/run checks it
 /// with the header.
-const TABLES_OF_ALL: usize = 101_734_813_696;
+const TABLES_OF_ALL: usize = 111_082_618_880;
 
 #[test]
 fn tables_have_the_size_of_the_header_and_of_a_machine() {
