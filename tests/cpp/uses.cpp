@@ -216,9 +216,9 @@ void check_threads()
     partmem::machine machine(sizes);
     partmem::tenant first(machine, 0, 2), second(machine, 1, 2);
     partmem::heap heaps[2];
-    std::mutex mutex;
+    std::mutex mutexes[3], of_administrator; // one for each tenant
     MUST(heaps[0].open(first) == status::done && heaps[1].open(second) == status::done);
-    const auto work = [&mutex](partmem::heap &heap) {
+    const auto work = [](partmem::heap &heap, std::mutex &mutex) {
         partmem::locked<std::mutex> resource(heap, mutex);
         for (int round = 0; round < 50; round++) {
             std::pmr::list<std::pmr::string> list(&resource);
@@ -226,9 +226,15 @@ void check_threads()
             for (std::size_t i = 0; i < 100; i++, list.pop_front()) MUST(list.front().size() == i);
         }
     };
-    std::thread beside(work, std::ref(heaps[0]));
-    work(heaps[1]);
+    std::thread beside(work, std::ref(heaps[0]), std::ref(mutexes[0]));
+    std::thread above(work, std::ref(heaps[1]), std::ref(mutexes[1]));
+    for (std::uint32_t round = 0; round < 200; round++) {
+        const std::lock_guard<std::mutex> administers(of_administrator), of_third(mutexes[2]);
+        partmem::tenant third(machine, 2, 3);
+        MUST(third.move(round % 3) && third.alloc(round % 5));
+    }
     beside.join();
+    above.join();
     MUST(live_frames(first) == 0 && live_frames(second) == 0);
 }
 
