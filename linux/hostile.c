@@ -1,5 +1,6 @@
 /* The world of processes that try to break the module or Linux. It checks that some calls are refused, that a process that waits
- * can be killed, that random calls change nothing of partition 0, and that a client's mappings are limited. */
+ * can be killed while another partition goes on, that random calls change nothing of partition 0, and that a client's mappings are
+ * limited. */
 #include "init.h"
 
 #include <errno.h>
@@ -179,9 +180,9 @@ static pid_t start_on(int processor)
     return 0;
 }
 
-static void wait_in(bool is_fault)
+static void wait_in(uint32_t partition, bool is_fault)
 {
-    places = mmap(NULL, PLACES, WRITE, MAP_SHARED, file = bound_file(0), 0);
+    places = mmap(NULL, PLACES, WRITE, MAP_SHARED, file = bound_file(partition), 0);
     while (!shared->is_told) usleep(1000);
     if (is_fault) touched(0);
     else call(PARTMEM_IOC_ALLOC, 0, 0);
@@ -201,15 +202,18 @@ static void keep_processor(void)
     for (;;) continue;
 }
 
-/* Kills a process that waits for the module's mutex, in a call or in a page fault. The mutex's holder cannot run meanwhile, since
- * a process with a higher priority has its processor. Returns whether the killed process ends in that time. */
+/* Kills a process that waits for the mutex of partition 1, in a call or in a page fault. The mutex's holder cannot run meanwhile,
+ * since a process with a higher priority has its processor. Returns true if the killed process ends in that time, and a process of
+ * partition 0 that does the same has not waited. */
 static bool ends_in(bool is_fault)
 {
-    bool waited = false, ended = false;
-    for (int tries = 0; tries < 20 && !waited; tries++) {
-        shared->is_told = false;
+    bool waited = false, other_waited = true, ended = false;
+    for (int tries = 0; tries < 20 && (!waited || other_waited); tries++) {
+        shared->is_told = ended = false;
         const pid_t waiter = start_on(0);
-        if (!waiter) wait_in(is_fault);
+        if (!waiter) wait_in(1, is_fault);
+        const pid_t other = start_on(0);
+        if (!other) wait_in(0, is_fault);
         const pid_t holder = start_on(1);
         if (!holder) hold();
         const pid_t above = start_on(1);
@@ -218,11 +222,13 @@ static bool ends_in(bool is_fault)
         shared->is_told = true;
         usleep(LONG);
         waited = waitpid(waiter, NULL, WNOHANG) == 0; /* else the holder was not in a call when it lost its processor */
+        other_waited = waitpid(other, NULL, WNOHANG) == 0;
         kill(waiter, SIGKILL);
         for (int i = 0; i < 20 && !ended; i++, usleep(LONG / 10)) ended = waitpid(waiter, NULL, WNOHANG) == waiter;
         end(above), end(holder), waitpid(waiter, NULL, 0);
+        if (other_waited) end(other);
     }
-    return waited && ended;
+    return waited && !other_waited && ended;
 }
 
 /* ---- Random calls --------------------------------------------------------------------------------------------------------- */
@@ -430,8 +436,8 @@ void run_hostile(void)
     shared = mmap(NULL, FRAME, WRITE, MAP_SHARED | MAP_ANONYMOUS, -1, 0);
     if (shared == MAP_FAILED) die("no shared page");
     refuse();
-    printf("a killed process ends while it waits in a call: %s\n", ends_in(false) ? "yes" : "no");
-    printf("a killed process ends while it waits in a page fault: %s\n", ends_in(true) ? "yes" : "no");
+    printf("a killed process ends while it waits in a call, and another partition goes on: %s\n", ends_in(false) ? "yes" : "no");
+    printf("a killed process ends while it waits in a page fault, and another goes on: %s\n", ends_in(true) ? "yes" : "no");
     storm();
     call(PARTMEM_IOC_RESET, 1, 0);
     limit_maps();

@@ -5,6 +5,7 @@
 #include <linux/mm.h>
 #include <linux/module.h>
 #include <linux/mount.h>
+#include <linux/mutex.h>
 #include <linux/pseudo_fs.h>
 #include <linux/slab.h>
 #include <linux/spinlock.h>
@@ -30,21 +31,24 @@ module_param(mistake, uint, 0444);
 static const unsigned int mistake;
 #endif
 
-/* How many mappings a client may have. A call that unmaps goes through all of them under the lock, and others wait meanwhile. If a
- * fork or a split makes more of them, which cannot be refused, FREE is refused. */
+/* How many mappings a client may have. A call that unmaps goes through all of them under the partition's mutex, and the others of
+ * the partition wait meanwhile. If a fork or a split makes more of them, which cannot be refused, FREE is refused. */
 enum { MAX_MAPS = 256 };
 
-/* Protects the library and the mappings. A page is unmapped before the call that ends its lifetime, and page faults wait until
- * the call is done (duties 8, 12). */
-static DEFINE_MUTEX(lock);
+/* The mutexes of duty 8: one for each partition, which also protects its mappings, and one for the administrator, which is locked
+ * first. A page is unmapped before the call that ends its lifetime, and page faults of the partition wait until the call is done
+ * (duty 12). Calls and faults of other partitions do not wait. */
+static DEFINE_MUTEX(administrator);
+static struct mutex *locks; /* by partition */
 static partmem_machine machine;
 static u8 *ram, *tables;
 static u32 unit;  /* bytes of a superblock */
 static u32 pages; /* how many pages a partition can name */
 
-/* Each reset of a partition gives it a new client, and ends the bindings of its files to the old one (duty 13). The numbers of
- * clients, also those in handles, are changed under the mutex and this lock, and read under one of them. Maps are counted under
- * this lock only, since a process that ends counts them too, and must not wait for the mutex. */
+/* Each reset of a partition gives it a new client, and ends the bindings of its files to the old one (duty 13). The number of a
+ * client is changed under the mutex of its partition and this lock, and read under one of them. A handle is bound once, under the
+ * administrator's mutex and this lock. Maps are counted under this lock only, since a process that ends counts them too, and must
+ * not wait for a mutex. */
 static DEFINE_SPINLOCK(client_lock);
 static struct client {
 	u64 number; /* at least 1; no client before had it */
@@ -71,6 +75,17 @@ static bool is_bound(const struct handle *handle)
 	return handle->client == clients[handle->partition].number;
 }
 
+/* Returns a copy of a handle, which may be bound at any time. A copy that is bound stays as it is. */
+static struct handle copy_of(const struct handle *handle)
+{
+	struct handle copy;
+
+	spin_lock(&client_lock);
+	copy = *handle;
+	spin_unlock(&client_lock);
+	return copy;
+}
+
 static void begin_client(u32 partition)
 {
 	static u64 last;
@@ -93,7 +108,7 @@ static void unmap(u32 partition, u64 place, u64 bytes, unsigned int unless)
 		unmap_mapping_range(node->i_mapping, (first_page(clients[partition].number) << PAGE_SHIFT) + place, bytes, 1);
 }
 
-/* ---- Calls, each under the lock ------------------------------------------------------------------------------------------- */
+/* ---- Calls, each under the mutex of its partition. Those of the administrator are under the administrator's mutex too ------ */
 
 static void move(struct partmem_call *call, partmem_slot *moved)
 {
@@ -139,7 +154,7 @@ static long call_of_administrator(unsigned int kind, struct handle *handle, stru
 	return 0;
 }
 
-static long call_of_partition(unsigned int kind, struct handle *handle, struct partmem_call *call)
+static long call_of_partition(unsigned int kind, const struct handle *handle, struct partmem_call *call)
 {
 	partmem_lent block;
 
@@ -159,6 +174,34 @@ static long call_of_partition(unsigned int kind, struct handle *handle, struct p
 	return 0;
 }
 
+static long locked_call_of_partition(unsigned int kind, struct handle *handle, struct partmem_call *call)
+{
+	const struct handle copy = copy_of(handle);
+	long status;
+
+	if (!copy.client)
+		return -EBADF; /* a file that is not bound waits for no partition */
+	if (mutex_lock_killable(&locks[copy.partition]))
+		return -EINTR;
+	status = call_of_partition(kind, &copy, call);
+	mutex_unlock(&locks[copy.partition]);
+	return status;
+}
+
+static long locked_call_of_administrator(unsigned int kind, struct handle *handle, struct partmem_call *call)
+{
+	long status = -EINTR;
+
+	if (mutex_lock_killable(&administrator))
+		return status;
+	if (!mutex_lock_killable(&locks[call->partition])) {
+		status = call_of_administrator(kind, handle, call);
+		mutex_unlock(&locks[call->partition]);
+	}
+	mutex_unlock(&administrator);
+	return status;
+}
+
 static long device_ioctl(struct file *file, unsigned int kind, unsigned long at)
 {
 	const bool is_own = kind == PARTMEM_IOC_ALLOC || kind == PARTMEM_IOC_FREE;
@@ -175,10 +218,9 @@ static long device_ioctl(struct file *file, unsigned int kind, unsigned long at)
 		return -EFAULT;
 	if (!is_own && call.partition >= partitions)
 		return -EINVAL;
-	if (mutex_lock_killable(&lock))
-		return -EINTR;
-	status = is_own ? call_of_partition(kind, file->private_data, &call) : call_of_administrator(kind, file->private_data, &call);
-	mutex_unlock(&lock); /* before the copy, which may fault, and a fault takes the lock */
+	status = is_own ? locked_call_of_partition(kind, file->private_data, &call)
+			: locked_call_of_administrator(kind, file->private_data, &call);
+	/* No mutex is locked during the copy, which may fault, and a fault locks the partition's. */
 	return !status && copy_to_user((void __user *)at, &call, sizeof(call)) ? -EFAULT : status;
 }
 
@@ -198,18 +240,18 @@ static u8 *address_of(u32 partition, u32 place)
 
 static vm_fault_t device_fault(struct vm_fault *fault)
 {
-	const struct handle *handle = fault->vma->vm_file->private_data;
+	const struct handle handle = copy_of(fault->vma->vm_file->private_data);
 	vm_fault_t status = VM_FAULT_SIGBUS;
 	u8 *at;
 
-	if (mutex_lock_killable(&lock))
+	if (mutex_lock_killable(&locks[handle.partition]))
 		return status; /* The process is being killed. If Linux copies for it, that has to end, so the fault is not tried again. */
-	if (is_bound(handle)) {
-		at = address_of(handle->partition, (u32)(fault->pgoff - first_page(handle->client)) << PAGE_SHIFT);
+	if (is_bound(&handle)) {
+		at = address_of(handle.partition, (u32)(fault->pgoff - first_page(handle.client)) << PAGE_SHIFT);
 		if (at)
 			status = vmf_insert_pfn(fault->vma, fault->address, vmalloc_to_pfn(at));
 	}
-	mutex_unlock(&lock);
+	mutex_unlock(&locks[handle.partition]);
 	return status;
 }
 
@@ -332,6 +374,7 @@ static void free_memory(void)
 	vfree(ram);
 	vfree(tables);
 	kfree(clients);
+	kfree(locks);
 }
 
 static int boot(void)
@@ -343,10 +386,13 @@ static int boot(void)
 	memory.ram = ram = vmalloc(PARTMEM_RAM_BYTES(order, superblocks));
 	memory.tables = tables = vmalloc(PARTMEM_TABLE_BYTES(order, superblocks, partitions));
 	clients = kcalloc(partitions, sizeof(*clients), GFP_KERNEL);
-	if (!ram || !tables || !clients)
+	locks = kcalloc(partitions, sizeof(*locks), GFP_KERNEL);
+	if (!ram || !tables || !clients || !locks)
 		return -ENOMEM;
-	for (partition = 0; partition < partitions; partition++)
+	for (partition = 0; partition < partitions; partition++) {
+		mutex_init(&locks[partition]);
 		begin_client(partition);
+	}
 	memset(ram, 0xa5, (size_t)superblocks * unit); /* only for the test: the library does not need cleared RAM */
 	return partmem_boot_in(&machine, &config, &memory) ? -EINVAL : 0;
 }
