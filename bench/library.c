@@ -321,9 +321,11 @@ static void write_answers(uint8_t **blocks) {
             all = sum(all, results.lent.at, call->size);
             store(results.lent.at, call, 1);
         }
-        const uint8_t is_null = results.lent.at == NULL;
-        results.lent.at = NULL; /* addresses differ from run to run */
-        all = sum(sum(sum(all, &is_null, 1), &results, sizeof results), buffer, PARTMEM_MAX_BYTES);
+        /* without the address, which differs from run to run, and the unused bytes of a partmem_lent */
+        const partmem_lent *lent = &results.lent;
+        const uint32_t numbers[] = {lent->at == NULL, lent->place, lent->bytes, lent->tenant, results.frames};
+        all = sum(sum(all, &results.slot, sizeof results.slot), &results.cache, sizeof results.cache);
+        all = sum(sum(all, numbers, sizeof numbers), buffer, PARTMEM_MAX_BYTES);
         all = sum_of_more(all, call, place, call->size > 0 ? (uint32_t)call->size : 8);
         printf("%u %u %u %zu %016" PRIx64 "\n", call->request.kind, status, place, call->size, all);
     }
