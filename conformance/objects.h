@@ -1,5 +1,16 @@
-/* Connects an allocator of objects of one size to the test: write the six functions below, which are those of `struct objects` of
- * tenant.h, and link them with objects.c, tenant.c and adapter.c. objects.c allocates slabs and page blocks by first fit. */
+/* Connects your own allocator of objects, which allocates no page blocks itself, to the test: write the six functions below and
+ * link them with objects.c, tenant.c and adapter.c. They are those of `struct objects` of tenant.h, which says what they do and
+ * which functions they call.
+ *
+ *     cc -O2 -Iconformance -o mine conformance/adapter.c conformance/tenant.c conformance/objects.c mine.c
+ *     conformance/check ./mine
+ *
+ * In Rust, write them as bit_slabs.rs does, and link the static library that rustc makes instead of mine.c:
+ *
+ *     rustc -O --edition 2021 --crate-type staticlib -o mine.a mine.rs
+ *
+ * objects.c allocates the slabs and the page blocks of tests, by first fit. So the test is about which objects your allocator
+ * returns, and about which slabs it frees. */
 #ifndef PARTMEM_OBJECTS_H
 #define PARTMEM_OBJECTS_H
 
