@@ -56,7 +56,7 @@ WORDS = """
     memory argmem inaccessiblemem write readwrite
 """.split()
 INTRINSICS = ["llvm.memset.p0.i64", "llvm.memmove.p0.p0.i64", "llvm.trap", "llvm.ctlz.i16", "llvm.ctlz.i32", "llvm.ctlz.i64",
-              "llvm.cttz.i32", "llvm.cttz.i64"]
+              "llvm.cttz.i16", "llvm.cttz.i32", "llvm.cttz.i64"]
 METADATA = ["noundef", "range", "llvm.ident"]
 # Attributes that are text. Those of the processor and its stack are removed.
 KEPT = ["frame-pointer", "no-builtin-bcmp", "no-builtin-memcmp", "no-builtin-strlen"]
