@@ -26,4 +26,5 @@ pub mod FirstSlot
 pub mod SummaryColumns
 pub mod NoNumbers
 pub mod SetFlipped
+pub mod SetsNoted
 pub mod SummaryNoted

@@ -80,28 +80,20 @@ impl Summary {
         ensures size { length self.new ≡ length self.old }
         ensures sets { (j : ℕ) → slice_index_or self.new j [] ≡ slice_set (slice_index_or self.old j []) slot (bit_at new j == 1) }
     {
-        let mut changed = old ^ new;
+        let filled: &mut [u64] = &mut self.filled;
+        let words: &mut [u64] = &mut self.words;
+        let row = usize::from(slot / WORD_BITS);
+        let bit = 1 << (slot % WORD_BITS);
+        let mut changed = u32::from(old ^ new);
         while changed != 0 {
             let order = changed.trailing_zeros();
-            self.flip(order as u8, slot);
             changed &= !(1 << order);
-        }
-    }
-
-    /// Inserts `slot` into the set of `order` if it is not in, and removes it if it is.
-    #[inline(always)]
-    fn flip(&mut self, order: u8, slot: u16)
-        requires order { order < length self.old }
-        requires slot { slot < length (slice_index_or self.old order []) }
-        ensures { self.new ≡ slice_set self.old order (flipped (slice_index_or self.old order []) slot) }
-    {
-        let row = usize::from(slot / WORD_BITS);
-        let word = row * ROW + usize::from(order);
-        self.words[word] ^= 1 << (slot % WORD_BITS);
-        if self.words[word] == 0 {
-            self.filled[usize::from(order)] &= !(1 << row);
-        } else {
-            self.filled[usize::from(order)] |= 1 << row;
+            let word = row * ROW + order as usize;
+            words[word] ^= bit;
+            // If no other slot is in the word, it becomes 0 or is 0 no longer.
+            if words[word] & !bit == 0 {
+                filled[order as usize] ^= 1 << row;
+            }
         }
     }
 }
