@@ -27,6 +27,18 @@ pub const MAX_FRAMES: u32 = 65_536;
 /// The largest number of tenants of a machine. The least is 1.
 pub const MAX_TENANTS: u8 = 64;
 
+/// The greatest order of a superblock of a wide machine (`Config::is_wide`).
+pub const WIDE_ORDER: u8 = 10;
+
+/// The largest number of superblocks of a wide machine.
+pub const WIDE_SUPERBLOCKS: u16 = 4096;
+
+/// The largest number of frames of a wide machine, and so of a tenant. Each of their bytes has a place below 2^32.
+pub const WIDE_FRAMES: u32 = 1_048_576;
+
+/// The largest number of tenants of a wide machine.
+pub const WIDE_TENANTS: u8 = 255;
+
 /// The largest number of caches of a tenant.
 pub const MAX_CACHES: u8 = 32;
 
