@@ -29,6 +29,7 @@ with_bank-IsSpace {s} facts m owned within bytes size = record {
   some = facts.some;
   small = facts.small;
   few = facts.few;
+  bytes = facts.bytes;
   tenants = facts.tenants;
   paired = length-set s.banks m bytes ∙ facts.paired;
   flagged = facts.flagged;

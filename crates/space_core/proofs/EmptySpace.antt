@@ -1,11 +1,11 @@
 -- `IsSpace` is true of the space that boot makes.
-use Rattle.std.proofs.Common.{◌≡◌, ℕ, ◌<◌, ◌≤◌, ◌^◌, ◌*◌, zero, Bool, cond, false, List, [], Option, None, length, get_or, replicate, count_by, is_some, sym, ◌∙◌, ap, inl, inr, refl, arith}
+use Rattle.std.proofs.Common.{◌≡◌, ℕ, ◌<◌, ◌≤◌, ◌^◌, ◌*◌, zero, Bool, cond, false, List, [], Option, None, length, get_or, replicate, count_by, is_some, sym, ◌∙◌, ap, inl, inr, refl, subst, arith}
 use Rattle.std.proofs.lemmas.List.{get_or-replicate, length-replicate, get_or_past}
 use Rattle.std.proofs.lemmas.List.Folds.{sum_by-replicate}
 use Rattle.std.proofs.lemmas.Bool.{cases_lt}
 use Rattle.model_core.specs.declared.owner.Owner.{Owner}
 use Rattle.model_core.specs.Owners.{is_of}
-use Rattle.model_core.specs.declared.limits.TheConstants.{MAX_ORDER, MAX_SUPERBLOCKS, MAX_TENANTS, FRAME_BYTES}
+use Rattle.model_core.specs.declared.limits.TheConstants.{MAX_ORDER, MAX_SUPERBLOCKS, MAX_TENANTS, WIDE_FRAMES, FRAME_BYTES}
 use Rattle.model_core.proofs.Lists.{everywhere}
 use Rattle.space_core.specs.Content.{IsSpace, empty_space, superblock_at}
 
@@ -23,8 +23,8 @@ count_by-copies : {A : Type 0} (p : A → Bool) (n : ℕ) (x : A) → p x ≡ fa
 count_by-copies p n x fails =
     sum_by-replicate (λ y. cond (p y) 1 0) n x ∙ (ap (λ b. n * cond b 1 0) fails ∙ omega arith)
 
-pub empty_space-IsSpace : (unit n tenants : ℕ) → 0 < unit → unit ≤ FRAME_BYTES * 2 ^ MAX_ORDER → n ≤ MAX_SUPERBLOCKS → tenants ≤ MAX_TENANTS → IsSpace (empty_space unit n tenants)
-empty_space-IsSpace unit n tenants some small few short =
+pub empty_space-IsSpace : (unit n tenants : ℕ) → 0 < unit → unit ≤ FRAME_BYTES * 2 ^ MAX_ORDER → n ≤ MAX_SUPERBLOCKS → tenants ≤ MAX_TENANTS → n * unit ≤ FRAME_BYTES * WIDE_FRAMES → IsSpace (empty_space unit n tenants)
+empty_space-IsSpace unit n tenants some small few short bytes =
     let none : Option ℕ = None in
     let nobody : Option Owner = None in
     let row = replicate n none in
@@ -33,6 +33,7 @@ empty_space-IsSpace unit n tenants some small few short =
       some = some;
       small = small;
       few = omega (arith, length-replicate n nobody);
+      bytes = subst (λ k. k * unit ≤ FRAME_BYTES * WIDE_FRAMES) (sym (length-replicate n nobody)) bytes;
       tenants = omega (arith, length-replicate tenants row);
       paired = length-replicate n zeroes ∙ sym (length-replicate n nobody);
       flagged = length-replicate n false ∙ sym (length-replicate n nobody);

@@ -1,11 +1,12 @@
 -- `IsSpace` stays true after a grant, a take-back and a move.
-use Rattle.std.proofs.Common.{◌≡◌, ◌≢◌, ℕ, ◌<◌, true, false, List, [], Option, Some, None, is_some, length, get_or, replicate, sym, ◌∙◌, ap, subst, inl, inr, refl, arith}
+use Rattle.std.proofs.Common.{◌≡◌, ◌≢◌, ℕ, ◌*◌, ◌<◌, ◌≤◌, true, false, List, [], Option, Some, None, is_some, length, get_or, replicate, sym, ◌∙◌, ap, subst, inl, inr, refl, arith}
 use Rattle.std.proofs.Math.ListN.{set}
 use Rattle.std.proofs.lemmas.List.{get_or-set_same, get_or-set_other, set-set, length-set, length-replicate, get_or_past}
 use Rattle.std.proofs.lemmas.Bool.{cases_lt, cases_eq}
 use Rattle.std.proofs.lemmas.Bool.Decides.{nat_tests}
 use Rattle.model_core.specs.declared.owner.Owner.{Owner}
 use Rattle.model_core.specs.Owners.{owned_by, is_of}
+use Rattle.model_core.specs.declared.limits.TheConstants.{FRAME_BYTES, WIDE_FRAMES}
 use Rattle.space_core.specs.Content.{Content, IsSpace, bank, owner_at, mark_at, slots_of, superblock_at}
 use Rattle.space_core.specs.Changes.{with_entry, with_grant, with_take_back, with_move}
 use Rattle.space_core.specs.Laws.{IsOneToOne}
@@ -44,6 +45,7 @@ taken_back-IsSpace {s} facts t u m under =
       some = facts.some;
       small = facts.small;
       few = omega (arith, facts.few, length-set s.owners m None);
+      bytes = subst (λ k. k * s.unit ≤ FRAME_BYTES * WIDE_FRAMES) (sym (length-set s.owners m None)) facts.bytes;
       tenants = omega (arith, facts.tenants, length-set s.slots t row);
       paired = facts.paired ∙ sym (length-set s.owners m None);
       flagged = length-set s.marks m true ∙ (facts.flagged ∙ sym (length-set s.owners m None));
@@ -66,6 +68,7 @@ granted-IsSpace {s} facts t u m tenant slot within vacant unowned =
       some = facts.some;
       small = facts.small;
       few = omega (arith, facts.few, length-set s.owners m o);
+      bytes = subst (λ k. k * s.unit ≤ FRAME_BYTES * WIDE_FRAMES) (sym (length-set s.owners m o)) facts.bytes;
       tenants = omega (arith, facts.tenants, length-set s.slots t row);
       paired = length-set s.banks m zeroes ∙ (facts.paired ∙ sym (length-set s.owners m o));
       flagged = length-set s.marks m false ∙ (facts.flagged ∙ sym (length-set s.owners m o));

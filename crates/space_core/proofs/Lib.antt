@@ -11,6 +11,7 @@ mod SeatLemmas
 mod Places
 pub mod BytesUnderSlots
 mod OwnBytes
+pub mod PlacesEnd
 mod TenantsKept
 mod UnownedBytes
 pub mod SpaceLaws

@@ -1,6 +1,6 @@
 -- RAM by superblock, the pool, and the mapping between superblocks and the slots of tenants.
 use Rattle.std.specs.Prelude.{◌≡◌, ℕ, ◌*◌, ◌<◌, ◌≤◌, ◌^◌, ◌↔◌, Bool, false, List, [], Option, Some, None, is_some, length, count_by, replicate, slice_index_or}
-use Rattle.model_core.specs.declared.limits.TheConstants.{FRAME_BYTES, MAX_ORDER, MAX_SUPERBLOCKS, MAX_TENANTS}
+use Rattle.model_core.specs.declared.limits.TheConstants.{FRAME_BYTES, MAX_ORDER, MAX_SUPERBLOCKS, MAX_TENANTS, WIDE_FRAMES}
 use Rattle.model_core.specs.declared.owner.Owner.{Owner}
 use Rattle.model_core.specs.Owners.{owned_by, is_of}
 
@@ -39,6 +39,7 @@ pub record IsSpace (s : Content) : Type 0 where
   pub some : 0 < s.unit
   pub small : s.unit ≤ FRAME_BYTES * 2 ^ MAX_ORDER
   pub few : length s.owners ≤ MAX_SUPERBLOCKS
+  pub bytes : length s.owners * s.unit ≤ FRAME_BYTES * WIDE_FRAMES
   pub tenants : length s.slots ≤ MAX_TENANTS
   pub paired : length s.banks ≡ length s.owners
   pub flagged : length s.marks ≡ length s.owners

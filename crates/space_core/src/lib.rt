@@ -18,7 +18,7 @@ mod vacancy;
 mod windows;
 
 ghost use Rattle.std.specs.Prelude.{◌≡◌, ◌*◌, ◌^◌, ◌≤◌, IfOk};
-ghost use Rattle.model_core.specs.declared.limits.TheConstants.{FRAME_BYTES, MAX_ORDER, MAX_SUPERBLOCKS, MAX_TENANTS};
+ghost use Rattle.model_core.specs.declared.limits.TheConstants.{FRAME_BYTES, MAX_ORDER, MAX_SUPERBLOCKS, MAX_TENANTS, WIDE_FRAMES};
 ghost use Rattle.space_core.specs.Content.{empty_space};
 ghost use Rattle.space_core.specs.Tables.{stored_rows};
 ghost use Rattle.space_core.specs.Laws.{SpaceLaws};
@@ -116,6 +116,7 @@ impl Space {
         requires order { order ≤ MAX_ORDER }
         requires superblocks { superblocks ≤ MAX_SUPERBLOCKS }
         requires tenants { tenants ≤ MAX_TENANTS }
+        requires frames { superblocks * 2 ^ order ≤ WIDE_FRAMES }
         ensures { IfOk result (λ s. s ≡ empty_space (FRAME_BYTES * 2 ^ order) superblocks tenants) }
     {
         let unit = FRAME_BYTES << order;

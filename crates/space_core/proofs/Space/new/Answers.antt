@@ -20,9 +20,11 @@ invariant_of-result c =
     let stored = rw c.from-6.ensures at c.in_ok-banks.ensures.bytes in
     let banks = ap (shown_banks unit) stored ∙ shown-none unit c.args.superblocks in
     let marks = rw c.from-7.ensures at (c.in_ok-marks.ensures.items_if_clones_equal (λ y same. search rules)) in
+    let whole : unit ≡ 4096 * 2 ^ c.args.order = omega (arith, most) in
+    let bytes : c.args.superblocks * unit ≤ 4294967296 = omega (arith, ap (λ n. c.args.superblocks * n) whole, c.requires.frames) in
     let zeros = c.in_ok-zeros.ensures.items_if_clones_equal (λ y same. search rules) in
     rw (owners, slots, banks, marks) (
-      empty_space-IsSpace unit c.args.superblocks c.args.tenants (omega (arith, most)) (omega (arith, most)) c.requires.superblocks c.requires.tenants,
+      empty_space-IsSpace unit c.args.superblocks c.args.tenants (omega (arith, most)) (omega (arith, most)) c.requires.superblocks c.requires.tenants bytes,
       record { few = omega arith; size = (let whole : unit ≡ 2 ^ 12 * 2 ^ c.args.order = omega (arith, most) in whole ∙ sym (pow-add 2 12 c.args.order)); capacity = c.in_ok-banks.ensures.capacity; blank = zeros },
       blank_vacancy c.args.superblocks c.args.tenants c.in_ok-vacancy.vacancy.unowned c.in_ok-vacancy.vacancy.vacant.items c.in_ok-vacancy.ensures.unowned c.in_ok-vacancy.ensures.vacant,
       empty_seats c.args.superblocks c.args.tenants _ seats,
