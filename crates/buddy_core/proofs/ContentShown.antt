@@ -7,7 +7,7 @@ use Rattle.std.proofs.lemmas.Nat.{pow_pos, le-div, one_shl}
 use Rattle.std.proofs.lemmas.Bool.{cases_lt, cases_eq, false≢true}
 use Rattle.std.proofs.lemmas.Option.{none-some}
 use Rattle.std.specs.List.{range_with_len}
-use Rattle.model_core.specs.declared.limits.TheConstants.{MAX_ORDER}
+use Rattle.model_core.specs.declared.limits.TheConstants.{WIDE_ORDER}
 use Rattle.model_core.specs.Blocks.{Taken}
 use Rattle.buddy_core.specs.Content.{Holding, Content, holding_of, with_holding, superblock_at as held_at, is_held, taken_of, no_tenant}
 use Rattle.buddy_core.specs.Stored.{StoredSuperblock, StoredTenant, superblock_of, stored_tenant, superblock_at, held_by, order_under, taken_by, holding_shown, content_shown}
@@ -159,8 +159,8 @@ slot_at top superblocks tenants c e t u = ap (λ x. held_at (holding_of t x) u) 
 pub slot_read : (tenants : List StoredTenant) (t : ℕ) (tenant : StoredTenant) → t < length tenants → tenant ≡ get_or tenants t tenant → (u : ℕ) (o : Option ℕ) → o ≡ superblock_at tenant u → superblock_at (stored_tenant t tenants) u ≡ o
 slot_read tenants t tenant lt e u o at = ap (λ r. superblock_at r u) (sym (get_or_read tenants t tenant lt e blank_of)) ∙ sym at
 
--- if top is at most MAX_ORDER, `1 << top` in the code is 2 ^ top
-pub size_is : (top : ℕ) → top ≤ MAX_ORDER → 1 * 2 ^ top % 2 ^ 32 ≡ 2 ^ top
+-- if top is at most WIDE_ORDER, `1 << top` in the code is 2 ^ top
+pub size_is : (top : ℕ) → top ≤ WIDE_ORDER → 1 * 2 ^ top % 2 ^ 32 ≡ 2 ^ top
 size_is top le = one_shl top 32 (omega arith)
 
 -- if slot u has a superblock, u is below the number of slots

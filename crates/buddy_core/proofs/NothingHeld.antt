@@ -8,7 +8,7 @@ use Rattle.std.proofs.lemmas.List.FromFn.{length-map-range_with_len, get_or-map-
 use Rattle.std.proofs.lemmas.Option.{none-some}
 use Rattle.std.proofs.lemmas.Bool.{cases_lt, false≢true, false_from_ne_true}
 use Rattle.model_core.specs.Blocks.{block}
-use Rattle.model_core.specs.declared.limits.TheConstants.{MAX_ORDER, MAX_SUPERBLOCKS, MAX_TENANTS}
+use Rattle.model_core.specs.declared.limits.TheConstants.{WIDE_ORDER, WIDE_SUPERBLOCKS, WIDE_TENANTS, WIDE_FRAMES}
 use Rattle.model_core.specs.Choice.{is_free}
 use Rattle.model_core.proofs.BlockChoice.{free_is_tested}
 use Rattle.model_core.proofs.CountBelow.{count_none}
@@ -78,11 +78,12 @@ module _ (top superblocks tenants : ℕ) where
   superblock_is : (m : ℕ) → m < length (replicate superblocks (bare_superblock top)) → superblock_of m (replicate superblocks (bare_superblock top)) ≡ bare_superblock top
   superblock_is m lt = get_or-replicate superblocks m (bare_superblock top) bare_of (subst (λ n. m < n) size lt)
 
-  pub opening_kept : top ≤ MAX_ORDER → superblocks ≤ MAX_SUPERBLOCKS → tenants ≤ MAX_TENANTS → IsKept top (replicate superblocks (bare_superblock top)) (replicate tenants (bare_tenant top superblocks))
-  opening_kept small few shared = record {
+  pub opening_kept : top ≤ WIDE_ORDER → superblocks ≤ WIDE_SUPERBLOCKS → tenants ≤ WIDE_TENANTS → superblocks * 2 ^ top ≤ WIDE_FRAMES → IsKept top (replicate superblocks (bare_superblock top)) (replicate tenants (bare_tenant top superblocks))
+  opening_kept small few shared frames = record {
     small = small;
-    few = subst (λ n. n ≤ MAX_SUPERBLOCKS) (sym size) few;
-    few_tenants = subst (λ n. n ≤ MAX_TENANTS) (sym (length-replicate tenants (bare_tenant top superblocks))) shared;
+    few = subst (λ n. n ≤ WIDE_SUPERBLOCKS) (sym size) few;
+    frames = subst (λ n. n * 2 ^ top ≤ WIDE_FRAMES) (sym size) frames;
+    few_tenants = subst (λ n. n ≤ WIDE_TENANTS) (sym (length-replicate tenants (bare_tenant top superblocks))) shared;
     order = λ m lt. ap (λ (z : StoredSuperblock). z.tree.order) (superblock_is m lt);
     each = λ t lt. subst (IsTenantKept top (replicate superblocks (bare_superblock top)))
         (ap (bare_tenant top) size ∙ sym (get_or-replicate tenants t (bare_tenant top superblocks) blank_of (subst (λ n. t < n) (length-replicate tenants (bare_tenant top superblocks)) lt)))

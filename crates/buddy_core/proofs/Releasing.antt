@@ -3,7 +3,7 @@ use Rattle.std.proofs.Common.{◌≡◌, Option, refl, sym, ◌∙◌, ap, subst
 use Rattle.std.specs.Prelude.{slice_index}
 use Rattle.std.proofs.lemmas.Nat.{div-mul-add, mod_below, pow_pos, shr_split}
 use Rattle.std.proofs.Math.Nat.{mul-le-mul_right}
-use Rattle.model_core.specs.declared.limits.TheConstants.{MAX_ORDER}
+use Rattle.model_core.specs.declared.limits.TheConstants.{WIDE_ORDER}
 use Rattle.model_core.specs.Blocks.{Taken}
 use Rattle.model_core.specs.Choice.{is_available}
 use Rattle.model_core.specs.Numbered.{number_at, IsOpen}
@@ -39,14 +39,14 @@ pub record IsAt (top : ℕ) (superblocks : List StoredSuperblock) (tenants : Lis
   pub whole : frame / 2 ^ top * 2 ^ top + x ≡ frame
 
 -- the order of the taken block that begins at `frame` is stored in the superblock of the frame's slot
-pub begins_at : (top : ℕ) (superblocks : List StoredSuperblock) (tenants : List StoredTenant) → top ≤ MAX_ORDER → (t : ℕ) (now : Content) → IsShown top superblocks tenants t now → (frame : ℕ)
+pub begins_at : (top : ℕ) (superblocks : List StoredSuperblock) (tenants : List StoredTenant) → top ≤ WIDE_ORDER → (t : ℕ) (now : Content) → IsShown top superblocks tenants t now → (frame : ℕ)
     → (o : Option ℕ) → superblock_at (stored_tenant t tenants) (frame / 2 ^ top) ≡ o → order_under superblocks o (frame % (1 * 2 ^ top % 2 ^ 32)) ≡ taken_of (holding_of t now) frame
 begins_at top superblocks tenants small t now s frame o slot =
     ap (λ n. order_under superblocks o (frame % n)) (size_is top small)
     ∙ sym (ap (λ p. order_under superblocks p (frame % 2 ^ top)) slot)
     ∙ sym (ap (λ (T : Taken). T frame) s.taken)
 
-pub at_frame : (top : ℕ) (superblocks : List StoredSuperblock) (tenants : List StoredTenant) → top ≤ MAX_ORDER → (t : ℕ) (now : Content) → IsShown top superblocks tenants t now → (frame k m x : ℕ)
+pub at_frame : (top : ℕ) (superblocks : List StoredSuperblock) (tenants : List StoredTenant) → top ≤ WIDE_ORDER → (t : ℕ) (now : Content) → IsShown top superblocks tenants t now → (frame k m x : ℕ)
     → superblock_at (stored_tenant t tenants) (frame / 2 ^ top) ≡ Some m → Some k ≡ taken_of (holding_of t now) frame → x ≡ frame % (1 * 2 ^ top % 2 ^ 32) → IsAt top superblocks tenants t frame k m x
 at_frame top superblocks tenants small t now s frame k m x slot begins rest = record {
   listed = s.listed;

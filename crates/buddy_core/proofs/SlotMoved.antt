@@ -6,7 +6,7 @@ use Rattle.std.specs.List.{SwappedAt, range_with_len}
 use Rattle.std.proofs.lemmas.List.{get_or-set_same, get_or-set_other}
 use Rattle.std.proofs.lemmas.Option.{same_Some}
 use Rattle.std.proofs.lemmas.Bool.{cases_eq}
-use Rattle.model_core.specs.declared.limits.TheConstants.{MAX_SUPERBLOCKS, MAX_TENANTS}
+use Rattle.model_core.specs.declared.limits.TheConstants.{WIDE_SUPERBLOCKS, WIDE_TENANTS, WIDE_FRAMES}
 use Rattle.model_core.specs.Blocks.{Taken}
 use Rattle.buddy_core.specs.Content.{Holding, with_holding, with_slot}
 use Rattle.buddy_core.specs.Stored.{StoredSuperblock, StoredTenant, bare_superblock, superblock_of, stored_tenant, superblock_at, held_by, holding_shown, content_shown}
@@ -103,8 +103,9 @@ module _ (top : ℕ) (superblocks : List StoredSuperblock) (tenants : List Store
   pub move_kept : IsKept top after (set tenants t moved)
   move_kept = record {
     small = kept.small;
-    few = subst (λ n. n ≤ MAX_SUPERBLOCKS) (sym size) kept.few;
-    few_tenants = subst (λ n. n ≤ MAX_TENANTS) (sym (length-set tenants t moved)) kept.few_tenants;
+    few = subst (λ n. n ≤ WIDE_SUPERBLOCKS) (sym size) kept.few;
+    frames = subst (λ n. n * 2 ^ top ≤ WIDE_FRAMES) (sym size) kept.frames;
+    few_tenants = subst (λ n. n ≤ WIDE_TENANTS) (sym (length-set tenants t moved)) kept.few_tenants;
     order = λ i lt. order_now i (subst (λ n. i < n) size lt) (cases_eq i from) (cases_eq i m);
     each = λ v lt. each_kept v lt (cases_eq v t);
     apart = λ v u z w i a b. apart v u z w i (was v u i a (cases_eq v t) (cases_eq u slot)) (was z w i b (cases_eq z t) (cases_eq w slot));

@@ -4,7 +4,7 @@ use Rattle.std.proofs.lemmas.List.{get_or-set_same, get_or-set_other}
 use Rattle.std.proofs.lemmas.Bool.{cases_eq}
 use Rattle.model_core.specs.Blocks.{Taken, block, IsSound}
 use Rattle.std.specs.List.{range_with_len}
-use Rattle.model_core.specs.declared.limits.TheConstants.{MAX_SUPERBLOCKS, MAX_TENANTS}
+use Rattle.model_core.specs.declared.limits.TheConstants.{WIDE_SUPERBLOCKS, WIDE_TENANTS, WIDE_FRAMES}
 use Rattle.model_core.specs.Choice.{is_available, is_free, count_below}
 use Rattle.buddy_core.specs.Content.{Holding, with_holding, taken_block_count}
 use Rattle.buddy_core.specs.Tree.{Shows}
@@ -113,8 +113,9 @@ module _ (top : ℕ) (superblocks : List StoredSuperblock) (tenants : List Store
   pub kept_changed : IsKept top (set superblocks m s) (set tenants t tenant)
   kept_changed = record {
     small = old.small;
-    few = subst (λ n. n ≤ MAX_SUPERBLOCKS) (sym (length-set superblocks m s)) old.few;
-    few_tenants = subst (λ n. n ≤ MAX_TENANTS) (sym (length-set tenants t tenant)) old.few_tenants;
+    few = subst (λ n. n ≤ WIDE_SUPERBLOCKS) (sym (length-set superblocks m s)) old.few;
+    frames = subst (λ n. n * 2 ^ top ≤ WIDE_FRAMES) (sym (length-set superblocks m s)) old.frames;
+    few_tenants = subst (λ n. n ≤ WIDE_TENANTS) (sym (length-set tenants t tenant)) old.few_tenants;
     order = λ i lt. order_kept i (subst (λ n. i < n) (length-set superblocks m s) lt) (cases_eq i m);
     each = λ v lt. each_kept v lt (cases_eq v t);
     apart = λ v u z w i a b. apart_kept v u z w i a b (cases_eq v t) (cases_eq z t);

@@ -4,9 +4,9 @@ use Rattle.std.specs.Prelude.{slice_index, count_by}
 use Rattle.std.proofs.lemmas.List.{get_or_past}
 use Rattle.std.proofs.lemmas.List.Sums.{sum_by-set, count_by-le-length}
 use Rattle.std.proofs.lemmas.List.FromFn.{length-map-range_with_len}
-use Rattle.std.proofs.lemmas.Nat.{mul-le, pow_below}
+use Rattle.std.proofs.lemmas.Nat.{pow_below}
 use Rattle.std.proofs.lemmas.Bool.{cases_lt, cases_eq, eq-eqb, ne_eqb}
-use Rattle.model_core.specs.declared.limits.TheConstants.{MAX_FRAMES, MAX_SUPERBLOCKS}
+use Rattle.model_core.specs.declared.limits.TheConstants.{WIDE_SUPERBLOCKS}
 use Rattle.model_core.specs.Blocks.{block}
 use Rattle.model_core.specs.Choice.{is_free}
 use Rattle.buddy_core.specs.Content.{has_order}
@@ -24,9 +24,6 @@ pow_le i j le = go (cases_lt i j)
     go (inr ge) = let same : i ≡ j = omega arith in subst (λ n. 2 ^ i ≤ 2 ^ n) same (omega arith)
 
 module _ (top : ℕ) (superblocks : List StoredSuperblock) (tenants : List StoredTenant) (kept : IsKept top superblocks tenants) where
-  pub few_frames : length superblocks * 2 ^ top ≤ MAX_FRAMES
-  few_frames = let small = pow_le top 8 kept.small in let few = kept.few in let le = mul-le (length superblocks) (2 ^ top) 256 256 few (omega arith) in omega arith
-
   module _ (t : ℕ) (listed : t < length tenants) where
     mine : IsTenantKept top superblocks (stored_tenant t tenants)
     mine = kept.each t listed
@@ -39,7 +36,7 @@ module _ (top : ℕ) (superblocks : List StoredSuperblock) (tenants : List Store
         go (inr le) =
             let is = mine.free i le in
             let bound = count_le (λ f. is_free top (held_by (stored_tenant t tenants)) (taken_by top superblocks (stored_tenant t tenants)) (block f i)) (length superblocks * 2 ^ top) in
-            let few = few_frames in
+            let few = kept.frames in
             omega arith
 
     pub table_size : length (holding_shown top superblocks (stored_tenant t tenants)).taken ≡ length superblocks * 2 ^ top
@@ -54,7 +51,7 @@ module _ (top : ℕ) (superblocks : List StoredSuperblock) (tenants : List Store
             let is = mine.taken i le in
             let bound = count_by-le-length (has_order i) (holding_shown top superblocks (stored_tenant t tenants)).taken in
             let size = table_size in
-            let few = few_frames in
+            let few = kept.frames in
             omega arith
 
     -- each count can rise by 1 without an overflow
@@ -80,8 +77,8 @@ taken_bit k j whole part out i = go (cases_eq i k)
     go (inl e) = subst (λ n. slice_index part.taken n ≡ slice_index whole.taken n + 1) (sym e) out.taken ∙ ap (λ n. slice_index whole.taken i + n) (sym (order_here k i e))
     go (inr ne) = let none = order_other k i ne in let same = out.rest i ne in omega arith
 
--- a slot that has a superblock has a number below MAX_SUPERBLOCKS
-pub slot_small : (top : ℕ) (superblocks : List StoredSuperblock) (tenants : List StoredTenant) → IsKept top superblocks tenants → (t : ℕ) → t < length tenants → (u m : ℕ) → superblock_at (stored_tenant t tenants) u ≡ Some m → u < MAX_SUPERBLOCKS
+-- a slot that has a superblock has a number below WIDE_SUPERBLOCKS
+pub slot_small : (top : ℕ) (superblocks : List StoredSuperblock) (tenants : List StoredTenant) → IsKept top superblocks tenants → (t : ℕ) → t < length tenants → (u m : ℕ) → superblock_at (stored_tenant t tenants) u ≡ Some m → u < WIDE_SUPERBLOCKS
 slot_small top superblocks tenants kept t listed u m at =
     let lt = slot_within (stored_tenant t tenants).slots u m at in
     let size = (kept.each t listed).sizes.slots in

@@ -1,11 +1,11 @@
 -- If one tenant loses all that it holds, `IsKept` stays true.
-use Rattle.std.proofs.Common.{◌≡◌, ◌⊎◌, inl, inr, refl, sym, ◌∙◌, ap, subst, ℕ, zero, suc, ◌+◌, ◌-◌, ◌^◌, ◌<◌, ◌≤◌, ◌==◌, Bool, false, Option, Some, None, List, [], length, get_or, set, arith, length-set}
+use Rattle.std.proofs.Common.{◌≡◌, ◌⊎◌, inl, inr, refl, sym, ◌∙◌, ap, subst, ℕ, zero, suc, ◌+◌, ◌-◌, ◌*◌, ◌^◌, ◌<◌, ◌≤◌, ◌==◌, Bool, false, Option, Some, None, List, [], length, get_or, set, arith, length-set}
 use Rattle.std.specs.Int.{bit_at}
 use Rattle.std.proofs.lemmas.List.{get_or-set_same, get_or-set_other, length-replicate, set-get_or}
 use Rattle.std.proofs.lemmas.Nat.Bits.{bit_at-zero}
 use Rattle.std.proofs.lemmas.Option.{none-some, same_Some}
 use Rattle.std.proofs.lemmas.Bool.{cases_lt, cases_eq}
-use Rattle.model_core.specs.declared.limits.TheConstants.{MAX_SUPERBLOCKS, MAX_TENANTS}
+use Rattle.model_core.specs.declared.limits.TheConstants.{WIDE_SUPERBLOCKS, WIDE_TENANTS, WIDE_FRAMES}
 use Rattle.model_core.proofs.Lists.{everywhere}
 use Rattle.buddy_core.specs.Content.{with_holding, nothing_held}
 use Rattle.buddy_core.specs.Stored.{StoredSuperblock, StoredTenant, bare_superblock, bare_tenant, superblock_of, stored_tenant, superblock_at, taken_by, content_shown}
@@ -149,8 +149,9 @@ module _ (top : ℕ) (superblocks : List StoredSuperblock) (tenants : List Store
   pub reset_kept : IsKept top after (set tenants t (bare_tenant top (length superblocks)))
   reset_kept = record {
     small = kept.small;
-    few = subst (λ l. l ≤ MAX_SUPERBLOCKS) (sym c.size) kept.few;
-    few_tenants = subst (λ l. l ≤ MAX_TENANTS) (sym (length-set tenants t (bare_tenant top (length superblocks)))) kept.few_tenants;
+    few = subst (λ l. l ≤ WIDE_SUPERBLOCKS) (sym c.size) kept.few;
+    frames = subst (λ l. l * 2 ^ top ≤ WIDE_FRAMES) (sym c.size) kept.frames;
+    few_tenants = subst (λ l. l ≤ WIDE_TENANTS) (sym (length-set tenants t (bare_tenant top (length superblocks)))) kept.few_tenants;
     order = λ i lt. order_now i lt (superblock_now i (under (stored_tenant t tenants) i n));
     each = λ v lt. each_kept v lt (cases_eq v t);
     apart = λ v u z w i a b. kept.apart v u z w i (was v u i a (cases_eq v t)) (was z w i b (cases_eq z t));

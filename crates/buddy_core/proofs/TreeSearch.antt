@@ -7,7 +7,7 @@ use Rattle.std.proofs.lemmas.Bool.{cases_eq, cases_lt, cond-false, false_from_ne
 use Rattle.std.proofs.lemmas.Nat.{shl_below, shl_whole, shl-shr, one_shl, pow_pos, pow-add}
 use Rattle.std.proofs.Math.Nat.{pow-suc, mul-le-mul_right, mul-lt-mul_of_pos_right, div-mul-le_self, div-lt_iff_lt-mul}
 use Rattle.std.proofs.Math.Pow.{pow_mono}
-use Rattle.model_core.specs.declared.limits.TheConstants.{MAX_ORDER}
+use Rattle.model_core.specs.declared.limits.TheConstants.{WIDE_ORDER}
 use Rattle.model_core.specs.Numbered.{number_at, is_clear, IsOpen}
 use Rattle.buddy_core.specs.Tree.{orders, Shows, HasOpen, IsLeast}
 use Rattle.model_core.proofs.BlocksByNumber.{number_is}
@@ -135,7 +135,7 @@ reached_stored top j d n words size h r =
 
 -- If the search ends at node n, the code computes (n << j) - (1 << top). Neither shift overflows, and the difference is the first
 -- frame of the block of node n, which is below 2 ^ top.
-pub first_of : (top j n : ℕ) → j ≤ top → top ≤ MAX_ORDER → 2 ^ (top - j) ≤ n → n < 2 * 2 ^ (top - j)
+pub first_of : (top j n : ℕ) → j ≤ top → top ≤ WIDE_ORDER → 2 ^ (top - j) ≤ n → n < 2 * 2 ^ (top - j)
     → (1 * 2 ^ top % 4294967296 ≡ 2 ^ top) × (n * 2 ^ j % 4294967296 ≡ 2 ^ top + (n - 2 ^ (top - j)) * 2 ^ j) × ((n - 2 ^ (top - j)) * 2 ^ j < 2 ^ top)
 first_of top j n h small least depth =
     let d = top - j in

@@ -1,7 +1,7 @@
 -- What each tenant holds in the buddy system: its slots with their superblocks, and its taken blocks. Free blocks are not part of
 -- the content, because they follow from the held slots and the taken blocks.
 use Rattle.std.specs.Prelude.{ℕ, ◌≡◌, ◌*◌, ◌^◌, ◌<◌, ◌≤◌, ◌==◌, Bool, false, Option, Some, None, is_some, List, [], length, replicate, slice_index_or, slice_set, count_by}
-use Rattle.model_core.specs.declared.limits.TheConstants.{MAX_ORDER, MAX_SUPERBLOCKS, MAX_TENANTS}
+use Rattle.model_core.specs.declared.limits.TheConstants.{WIDE_ORDER, WIDE_SUPERBLOCKS, WIDE_TENANTS, WIDE_FRAMES}
 use Rattle.model_core.specs.Blocks.{Taken, block, IsSound}
 use Rattle.model_core.specs.Choice.{is_free, count_below}
 
@@ -80,9 +80,10 @@ held_slots h = count_by is_some h.slots
 
 -- the sizes of a machine are within the limits, and each tenant has an entry for each slot and for each frame
 pub record IsSized (c : Content) : Type 0 where
-  pub small : c.top ≤ MAX_ORDER
-  pub few : c.superblocks ≤ MAX_SUPERBLOCKS
-  pub tenants : length c.tenants ≤ MAX_TENANTS
+  pub small : c.top ≤ WIDE_ORDER
+  pub few : c.superblocks ≤ WIDE_SUPERBLOCKS
+  pub frames : c.superblocks * 2 ^ c.top ≤ WIDE_FRAMES
+  pub tenants : length c.tenants ≤ WIDE_TENANTS
   pub slots : (t : ℕ) → t < length c.tenants → length (holding_of t c).slots ≡ c.superblocks
   pub taken : (t : ℕ) → t < length c.tenants → length (holding_of t c).taken ≡ c.superblocks * 2 ^ c.top
 

@@ -1,6 +1,6 @@
 -- What is always true of the stored superblocks and tenants.
 use Rattle.std.specs.Prelude.{◌≡◌, ℕ, ◌+◌, ◌*◌, ◌^◌, ◌<◌, ◌≤◌, Bool, Some, List, length, slice_index}
-use Rattle.model_core.specs.declared.limits.TheConstants.{MAX_ORDER, MAX_SUPERBLOCKS, MAX_TENANTS}
+use Rattle.model_core.specs.declared.limits.TheConstants.{WIDE_ORDER, WIDE_SUPERBLOCKS, WIDE_TENANTS, WIDE_FRAMES}
 use Rattle.model_core.specs.Blocks.{block, IsSound}
 use Rattle.model_core.specs.Choice.{is_available, is_free, count_below}
 use Rattle.buddy_core.specs.Content.{taken_block_count}
@@ -31,9 +31,10 @@ pub record IsTenantKept (top : ℕ) (superblocks : List StoredSuperblock) (tenan
   pub taken : (k : ℕ) → k ≤ top → slice_index tenant.taken k ≡ taken_block_count k (holding_shown top superblocks tenant)
 
 pub record IsKept (top : ℕ) (superblocks : List StoredSuperblock) (tenants : List StoredTenant) : Type 0 where
-  pub small : top ≤ MAX_ORDER
-  pub few : length superblocks ≤ MAX_SUPERBLOCKS
-  pub few_tenants : length tenants ≤ MAX_TENANTS
+  pub small : top ≤ WIDE_ORDER
+  pub few : length superblocks ≤ WIDE_SUPERBLOCKS
+  pub frames : length superblocks * 2 ^ top ≤ WIDE_FRAMES
+  pub few_tenants : length tenants ≤ WIDE_TENANTS
   pub order : (m : ℕ) → m < length superblocks → (superblock_of m superblocks).tree.order ≡ top
   pub each : (t : ℕ) → t < length tenants → IsTenantKept top superblocks (stored_tenant t tenants)
   -- no superblock is in two slots

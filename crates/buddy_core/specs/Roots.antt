@@ -1,7 +1,7 @@
 -- The orders of the free blocks in the superblocks of one tenant, according to the root words of their trees.
 use Rattle.std.specs.Prelude.{◌≡◌, ◌↔◌, ℕ, ◌+◌, ◌<◌, ◌≤◌, Option, Some, None, is_some, List, length, slice_index, slice_index_or, count_by}
 use Rattle.std.specs.Int.{bit_at}
-use Rattle.model_core.specs.declared.limits.TheConstants.{MAX_ORDER, MAX_SUPERBLOCKS}
+use Rattle.model_core.specs.declared.limits.TheConstants.{WIDE_ORDER, WIDE_SUPERBLOCKS}
 use Rattle.buddy_core.specs.declared.find.Source.{Source}
 use Rattle.buddy_core.specs.Stored.{StoredSuperblock, StoredTenant, superblock_of}
 
@@ -10,13 +10,13 @@ pub record IsEnd (slots : List (Option ℕ)) (end : ℕ) : Type 0 where
   pub within : end ≤ length slots
   pub rest : (u : ℕ) → end ≤ u → slice_index_or slots u None ≡ None
 
--- A tenant has at most MAX_SUPERBLOCKS slots, `held` of them have a superblock, and neither slot `end` nor a later slot has one.
--- For each of at most MAX_ORDER + 1 orders, the tenant has a count of free blocks and a count of taken blocks.
+-- A tenant has at most WIDE_SUPERBLOCKS slots, `held` of them have a superblock, and neither slot `end` nor a later slot has one.
+-- For each of at most WIDE_ORDER + 1 orders, the tenant has a count of free blocks and a count of taken blocks.
 pub record IsStoredTenant (slots : List (Option ℕ)) (end held : ℕ) (free taken : List ℕ) : Type 0 where
   pub ends : IsEnd slots end
   pub counted : held ≡ count_by is_some slots
-  pub few : length slots ≤ MAX_SUPERBLOCKS
-  pub orders : length free ≤ MAX_ORDER + 1
+  pub few : length slots ≤ WIDE_SUPERBLOCKS
+  pub orders : length free ≤ WIDE_ORDER + 1
   pub alike : length taken ≡ length free
 
 -- bit j of the root word of superblock m is 1, so the superblock has a free block of order j

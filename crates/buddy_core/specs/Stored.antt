@@ -1,7 +1,7 @@
 -- What is stored for each superblock and each tenant, and what the tenant holds according to this.
 use Rattle.std.specs.Prelude.{◌≡◌, ℕ, ◌+◌, ◌-◌, ◌*◌, ◌/◌, ◌%◌, ◌^◌, ◌≤◌, Bool, Option, Some, None, is_some, List, [], length, map, replicate, slice_index_or}
 use Rattle.std.specs.List.{range_with_len}
-use Rattle.model_core.specs.declared.limits.TheConstants.{MAX_ORDER}
+use Rattle.model_core.specs.declared.limits.TheConstants.{WIDE_ORDER}
 use Rattle.model_core.specs.Blocks.{Taken}
 use Rattle.buddy_core.specs.Content.{Holding, Content}
 
@@ -10,9 +10,9 @@ pub record StoredTree : Type 0 where
   pub order : ℕ
   pub words : List ℕ
 
--- the order of a tree is at most MAX_ORDER, and the tree has 2 ^ (order + 1) - 1 words, one for each node
+-- the order of a tree is at most WIDE_ORDER, and the tree has 2 ^ (order + 1) - 1 words, one for each node
 pub record IsTree (order : ℕ) (words : List ℕ) : Type 0 where
-  pub small : order ≤ MAX_ORDER
+  pub small : order ≤ WIDE_ORDER
   pub size : length words + 1 ≡ 2 ^ (order + 1)
 
 -- a superblock: its tree, and for each of its frames the order of the taken block that begins there

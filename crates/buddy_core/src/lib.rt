@@ -26,7 +26,7 @@
 #![tactic(auto)]
 
 ghost use Rattle.std.specs.Prelude.{◌≡◌, ℕ, ◌+◌, ◌*◌, ◌/◌, ◌%◌, ◌^◌, ◌<◌, ◌≤◌, Some, None, List, length, slice_index, slice_index_or, MatchOption, IfOk, OnOk, OnErr, IfNone, IfSome, OnSome, IsSome};
-ghost use Rattle.model_core.specs.declared.limits.TheConstants.{MAX_ORDER, MAX_SUPERBLOCKS, MAX_TENANTS};
+ghost use Rattle.model_core.specs.declared.limits.TheConstants.{WIDE_ORDER, WIDE_SUPERBLOCKS, WIDE_TENANTS, WIDE_FRAMES};
 ghost use Rattle.model_core.specs.Blocks.{Block, block, HasFrame, IsTaken, HasTaken, slot_block, IsChoice, IsWithout};
 ghost use Rattle.buddy_core.specs.Content.{Content, empty_buddy, nothing_held, holding_of, with_holding, superblock_at, is_held, taken_of, with_block, without_block, with_slot, without_slot, BuddyLaws, free_block_count, taken_block_count, held_slots};
 ghost use Rattle.buddy_core.specs.Table.{IsTable};
@@ -85,9 +85,10 @@ impl Buddy {
     /// Makes a machine with `superblocks` superblocks of `2^order` frames each, and with `tenants` tenants that hold nothing.
     /// Returns `AllocError` if the allocator refuses memory.
     pub fn new(alloc: Global, order: u8, superblocks: u16, tenants: u8) -> Result<Buddy, AllocError>
-        requires order { order ≤ MAX_ORDER }
-        requires superblocks { superblocks ≤ MAX_SUPERBLOCKS }
-        requires tenants { tenants ≤ MAX_TENANTS }
+        requires order { order ≤ WIDE_ORDER }
+        requires superblocks { superblocks ≤ WIDE_SUPERBLOCKS }
+        requires tenants { tenants ≤ WIDE_TENANTS }
+        requires frames { superblocks * 2 ^ order ≤ WIDE_FRAMES }
         ensures { IfOk result (λ b. b ≡ empty_buddy order superblocks tenants) }
     {
         let mut all_tenants = Vec::with_capacity(alloc, usize::from(tenants))?;

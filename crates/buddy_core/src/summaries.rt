@@ -2,7 +2,7 @@
 
 ghost use Rattle.std.specs.Prelude.{◌≡◌, ℕ, ◌+◌, ◌<◌, ◌≤◌, ◌==◌, Bool, false, [], length, position, replicate, slice_index_or, slice_set, IfOk};
 ghost use Rattle.std.specs.Int.{bit_at};
-ghost use Rattle.model_core.specs.declared.limits.TheConstants.{MAX_ORDER, MAX_SUPERBLOCKS};
+ghost use Rattle.model_core.specs.declared.limits.TheConstants.{WIDE_ORDER, WIDE_SUPERBLOCKS};
 ghost use Rattle.buddy_core.specs.SummaryWords.{flipped};
 
 use std::alloc::{AllocError, Global};
@@ -41,8 +41,8 @@ impl Model for Summary {
 impl Summary {
     /// Makes the summary of a tenant that holds nothing. Returns `AllocError` if the allocator refuses memory.
     pub fn new(alloc: Global, order: u8, superblocks: u16) -> Result<Summary, AllocError>
-        requires order { order ≤ MAX_ORDER }
-        requires superblocks { superblocks ≤ MAX_SUPERBLOCKS }
+        requires order { order ≤ WIDE_ORDER }
+        requires superblocks { superblocks ≤ WIDE_SUPERBLOCKS }
         ensures { IfOk result (λ s. s ≡ replicate (order + 1) (replicate superblocks false)) }
     {
         let rows = usize::from((superblocks + WORD_BITS - 1) / WORD_BITS);

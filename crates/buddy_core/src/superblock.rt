@@ -1,7 +1,7 @@
 //! The stored state of one superblock.
 
 ghost use Rattle.std.specs.Prelude.{◌≡◌, ℕ, ◌^◌, ◌<◌, ◌≤◌, Some, None, length, slice_index_or, slice_set, IfOk, Bool, true};
-ghost use Rattle.model_core.specs.declared.limits.TheConstants.{MAX_ORDER};
+ghost use Rattle.model_core.specs.declared.limits.TheConstants.{WIDE_ORDER};
 ghost use Rattle.model_core.specs.Numbered.{number_at, IsOpen};
 ghost use Rattle.buddy_core.specs.Stored.{bare_superblock};
 ghost use Rattle.buddy_core.specs.Tree.{Shows, IsLess};
@@ -31,7 +31,7 @@ impl Model for Superblock {
 impl Superblock {
     /// Makes a superblock of `2^order` frames that is in no slot.
     pub fn new(alloc: Global, order: u8) -> Result<Superblock, AllocError>
-        requires { order ≤ MAX_ORDER }
+        requires { order ≤ WIDE_ORDER }
         ensures { IfOk result (λ s. s ≡ bare_superblock order) }
     {
         let tree = Tree::new(alloc, order)?;

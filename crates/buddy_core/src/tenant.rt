@@ -1,7 +1,7 @@
 //! The stored state of one tenant.
 
 ghost use Rattle.std.specs.Prelude.{◌≡◌, ℕ, replicate, count_by, is_some, ◌+◌, ◌-◌, ◌^◌, ◌<◌, ◌≤◌, Some, None, List, length, slice_index, slice_index_or, slice_set, IfOk, IsSome, MatchOption};
-ghost use Rattle.model_core.specs.declared.limits.TheConstants.{MAX_ORDER, MAX_SUPERBLOCKS};
+ghost use Rattle.model_core.specs.declared.limits.TheConstants.{WIDE_ORDER, WIDE_SUPERBLOCKS};
 ghost use Rattle.buddy_core.specs.Stored.{bare_tenant};
 ghost use Rattle.buddy_core.specs.Counts.{CanCountMore, IsTakenOut};
 
@@ -35,8 +35,8 @@ impl Model for Tenant {
 impl Tenant {
     /// Makes a tenant that holds nothing.
     pub fn new(alloc: Global, order: u8, superblocks: u16) -> Result<Tenant, AllocError>
-        requires order { order ≤ MAX_ORDER }
-        requires superblocks { superblocks ≤ MAX_SUPERBLOCKS }
+        requires order { order ≤ WIDE_ORDER }
+        requires superblocks { superblocks ≤ WIDE_SUPERBLOCKS }
         ensures { IfOk result (λ t. t ≡ bare_tenant order superblocks) }
     {
         let slots = vec![in alloc; None; superblocks as usize]?;
@@ -54,7 +54,7 @@ impl Tenant {
     /// Returns an entry for each slot: its superblock, or `None`. No slot beyond the end of the slice is held.
     pub fn held(&self) -> &[Option<u16>]
         ensures same { (u : ℕ) → slice_index_or result.now u None ≡ slice_index_or self.now.slots u None }
-        ensures few { length result.now ≤ MAX_SUPERBLOCKS }
+        ensures few { length result.now ≤ WIDE_SUPERBLOCKS }
         ensures within { length result.now ≤ length self.now.slots }
     {
         &self.slots[..self.end]
@@ -78,7 +78,7 @@ impl Tenant {
     /// Returns the least order of at least `k` in which the tenant has a free block, or `None` if there is no such order.
     pub fn least_free(&self, k: u8) -> Option<u8>
         ensures { MatchOption result ((j : ℕ) → k ≤ j → slice_index self.now.free j ≡ 0)
-            (λ j. (k ≤ j) × (j ≤ MAX_ORDER) × (0 < slice_index self.now.free j)
+            (λ j. (k ≤ j) × (j ≤ WIDE_ORDER) × (0 < slice_index self.now.free j)
             × ((i : ℕ) → k ≤ i → i < j → slice_index self.now.free i ≡ 0)) }
     {
         for order in k..self.free.len() as u8 {

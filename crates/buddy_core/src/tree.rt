@@ -6,7 +6,7 @@
 
 ghost use Rattle.std.specs.Prelude.{◌≡◌, ℕ, ◌+◌, ◌-◌, ◌*◌, ◌/◌, ◌^◌, ◌<◌, ◌≤◌, Bool, true, false, ◌↔◌, IsTrue, IfOk, length, slice_index};
 ghost use Rattle.std.specs.Int.{bit_at};
-ghost use Rattle.model_core.specs.declared.limits.TheConstants.{MAX_ORDER};
+ghost use Rattle.model_core.specs.declared.limits.TheConstants.{WIDE_ORDER};
 ghost use Rattle.model_core.specs.Numbered.{number_at, IsOpen};
 ghost use Rattle.buddy_core.specs.Stored.{bare_tree};
 ghost use Rattle.buddy_core.specs.Tree.{Shows, IsLess, IsLeast, Mended, IsConfined};
@@ -59,7 +59,7 @@ fn node_of(leaf: u32, order: u8) -> usize
 impl Tree {
     /// Makes the tree of a superblock of `2^order` frames, none of them available.
     pub fn new(alloc: Global, order: u8) -> Result<Tree, AllocError>
-        requires { order ≤ MAX_ORDER }
+        requires { order ≤ WIDE_ORDER }
         ensures { IfOk result (λ t. t ≡ bare_tree order) }
     {
         let words = vec![in alloc; 0; (2 << order) - 1]?;

@@ -1,7 +1,7 @@
 use Rattle.std.proofs.Common.{◌≡◌, refl, sym, ◌∙◌, ap, subst, true, ℕ, ◌+◌, ◌*◌, ◌%◌, ◌^◌, ◌<◌, ◌≤◌, Bool, List, Some, get_or, set, length, arith}
 use Rattle.std.specs.Int.{bit_at}
 use Rattle.std.specs.Prelude.{slice_index}
-use Rattle.model_core.specs.declared.limits.TheConstants.{MAX_ORDER}
+use Rattle.model_core.specs.declared.limits.TheConstants.{WIDE_ORDER}
 use Rattle.std.proofs.lemmas.Nat.{one_shl}
 use Rattle.std.proofs.lemmas.List.{get_or_read}
 use Rattle.buddy_core.specs.Content.{holding_of, with_holding, with_slot}
@@ -39,7 +39,7 @@ add_slot-requires-clause-room c =
     subst (λ (r : StoredTenant). slice_index r.free a.order + 1 < 2 ^ 32) (sym tenant) (room a.order a.superblocks.items a.tenants.items c.self.invariant.0 c.args.t s.listed a.order).0
 
 -- the root word of a superblock that is one free block
-whole_root : (top : ℕ) (words : List ℕ) → top ≤ MAX_ORDER → Shows top (λ _. true) words → slice_index words 0 ≡ 1 * 2 ^ top % 65536
+whole_root : (top : ℕ) (words : List ℕ) → top ≤ WIDE_ORDER → Shows top (λ _. true) words → slice_index words 0 ≡ 1 * 2 ^ top % 65536
 whole_root top words small shows =
     first_word (λ _. true) top words shows ∙ orders_clear (λ _. true) top 0 (clear_from (λ _. true) top 0 (λ x h. refl)) ∙ sym (one_shl top 16 (omega arith))
 

@@ -1,7 +1,7 @@
 use Rattle.std.proofs.Common.{◌*◌, ◌^◌, ◌≤◌, refl, sym, subst, ap, ◌∙◌, length}
 use Rattle.std.proofs.lemmas.List.{length-map}
 use Rattle.std.proofs.lemmas.List.FromFn.{length-map-range_with_len}
-use Rattle.model_core.specs.declared.limits.TheConstants.{MAX_TENANTS}
+use Rattle.model_core.specs.declared.limits.TheConstants.{WIDE_TENANTS}
 use Rattle.model_core.specs.Blocks.{IsSound}
 use Rattle.buddy_core.specs.Content.{Content, Holding, BuddyLaws}
 use Rattle.buddy_core.specs.Stored.{stored_tenant, taken_by, holding_shown, content_shown}
@@ -19,7 +19,8 @@ returns c =
       sizes = record {
         small = kept.small;
         few = kept.few;
-        tenants = subst (λ n. n ≤ MAX_TENANTS) (sym (length-map tenants (holding_shown top superblocks))) kept.few_tenants;
+        frames = kept.frames;
+        tenants = subst (λ n. n ≤ WIDE_TENANTS) (sym (length-map tenants (holding_shown top superblocks))) kept.few_tenants;
         slots = λ t lt.
             let s = shown_is top superblocks tenants t (content_shown top superblocks tenants) refl lt in
             ap (λ (h : Holding). length h.slots) s.holding ∙ (kept.each t s.listed).sizes.slots;

@@ -15,7 +15,7 @@ invariant_of-result c =
     let summaries = c.loop-tenant.invariant.1 ∙ ap (λ n. replicate n (replicate (c.args.order + 1) (replicate c.args.superblocks false))) tenants in (
       subst (λ (xs : List StoredSuperblock). IsKept c.args.order xs c.loop-tenant.all_tenants.items) (sym all_superblocks)
           (subst (λ (xs : List StoredTenant). IsKept c.args.order (replicate c.args.superblocks (bare_superblock c.args.order)) xs) (sym all_tenants)
-          (opening_kept c.args.order c.args.superblocks c.args.tenants c.requires.order c.requires.superblocks c.requires.tenants)),
+          (opening_kept c.args.order c.args.superblocks c.args.tenants c.requires.order c.requires.superblocks c.requires.tenants c.requires.frames)),
       subst (λ (bs : List (List (List Bool))). AreExact c.loop-superblock.all_superblocks.items c.loop-tenant.all_tenants.items bs) (sym summaries)
           (subst (λ (xs : List StoredTenant). AreExact c.loop-superblock.all_superblocks.items xs (replicate c.args.tenants (replicate (c.args.order + 1) (replicate c.args.superblocks false)))) (sym all_tenants)
           (exact_first c.loop-superblock.all_superblocks.items c.args.order c.args.superblocks c.args.tenants)),

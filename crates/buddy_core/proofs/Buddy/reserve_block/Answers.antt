@@ -3,7 +3,7 @@ use Rattle.std.specs.Prelude.{slice_index, IfNone}
 use Rattle.std.proofs.lemmas.List.{get_or_read, set-get_or}
 use Rattle.std.proofs.lemmas.Nat.{shl_whole, mul-le, div-mul-add}
 use Rattle.std.proofs.Math.Pow.{pow_mono}
-use Rattle.model_core.specs.declared.limits.TheConstants.{MAX_SUPERBLOCKS}
+use Rattle.model_core.specs.declared.limits.TheConstants.{WIDE_SUPERBLOCKS}
 use Rattle.model_core.specs.Blocks.{block, IsChoice, IsWithout}
 use Rattle.buddy_core.specs.Content.{holding_of, superblock_at, is_held, taken_of, with_holding, with_block}
 use Rattle.buddy_core.specs.Counts.{CanCountMore}
@@ -233,9 +233,9 @@ overflow_add-result c =
     let listed = (shown g.After-index).listed in
     let at = found g.After-search-first listed (source g.After-index_mut-superblock (tenant_read g.After-index)) in
     let inside = at.inside in
-    let slot : p.slot ≤ 255 = omega (arith, slot_small a.order a.superblocks.items a.tenants.items c.self.invariant.0 c.args.t listed p.slot p.superblock at.source.at) in
-    let size = pow_mono {i = a.order} {j = 8} c.self.invariant.0.small in
-    let first = mul-le p.slot (2 ^ a.order) 255 256 slot (omega arith) in
+    let slot : p.slot ≤ 4095 = omega (arith, slot_small a.order a.superblocks.items a.tenants.items c.self.invariant.0 c.args.t listed p.slot p.superblock at.source.at) in
+    let size = pow_mono {i = a.order} {j = 10} c.self.invariant.0.small in
+    let first = mul-le p.slot (2 ^ a.order) 4095 1024 slot (omega arith) in
     let same = ap (λ n. n * 2 ^ a.order) c.from.ensures in
     omega arith
 
@@ -250,9 +250,9 @@ returns-clause-done c =
     let step = reserved g.After-count_reserved at (tenant_before g.After-index_mut s.listed) in
     let changed = step_change a.order a.superblocks.items a.tenants.items c.args.t p.slot p.superblock x c.reserve_at.new.self c.count_reserved.new.self (Some c.args.k) c.self.invariant.0 step in
     let f = p.slot * 2 ^ a.order + x in
-    let slot_lt : p.slot < MAX_SUPERBLOCKS = slot_small a.order a.superblocks.items a.tenants.items c.self.invariant.0 c.args.t s.listed p.slot p.superblock at.source.at in
+    let slot_lt : p.slot < WIDE_SUPERBLOCKS = slot_small a.order a.superblocks.items a.tenants.items c.self.invariant.0 c.args.t s.listed p.slot p.superblock at.source.at in
     let f_is : c.from.result * 2 ^ a.order % 4294967296 + x ≡ p.slot * 2 ^ a.order + x
-    = ap (λ n. n * 2 ^ a.order % 4294967296 + x) c.from.ensures ∙ ap (λ n. n + x) (shl_whole p.slot 8 a.order 32 (omega arith) (let small = c.self.invariant.0.small in omega arith)) in
+    = ap (λ n. n * 2 ^ a.order % 4294967296 + x) c.from.ensures ∙ ap (λ n. n + x) (shl_whole p.slot 12 a.order 32 (omega arith) (let small = c.self.invariant.0.small in omega arith)) in
     let choice = by_shown (λ top held taken. IsChoice top held taken c.args.k (block f p.order)) a.order a.superblocks.items a.tenants.items c.args.t c.args.self.now s
     (is_choice c.self.invariant.0 at) in
     let h = with_block f c.args.k (holding_shown a.order a.superblocks.items (stored_tenant c.args.t a.tenants.items)) in
@@ -278,9 +278,9 @@ returns-clause-under c =
     let s = shown g.After-index in
     let at = found g.After-search-first s.listed (source g.After-index_mut-superblock (tenant_read g.After-index)) in
     let top = s.order in
-    let slot_lt : p.slot < MAX_SUPERBLOCKS = slot_small a.order a.superblocks.items a.tenants.items c.self.invariant.0 c.args.t s.listed p.slot p.superblock at.source.at in
+    let slot_lt : p.slot < WIDE_SUPERBLOCKS = slot_small a.order a.superblocks.items a.tenants.items c.self.invariant.0 c.args.t s.listed p.slot p.superblock at.source.at in
     let f_is : c.from.result * 2 ^ a.order % 4294967296 + x ≡ p.slot * 2 ^ a.order + x
-    = ap (λ n. n * 2 ^ a.order % 4294967296 + x) c.from.ensures ∙ ap (λ n. n + x) (shl_whole p.slot 8 a.order 32 (omega arith) (let small = c.self.invariant.0.small in omega arith)) in
+    = ap (λ n. n * 2 ^ a.order % 4294967296 + x) c.from.ensures ∙ ap (λ n. n + x) (shl_whole p.slot 12 a.order 32 (omega arith) (let small = c.self.invariant.0.small in omega arith)) in
     let slot : (c.from.result * 2 ^ a.order % 4294967296 + x) / 2 ^ c.args.self.now.top ≡ p.slot
     = ap (λ n. n / 2 ^ c.args.self.now.top) f_is ∙ ap (λ n. (p.slot * 2 ^ a.order + x) / 2 ^ n) top ∙ div-mul-add p.slot (2 ^ a.order) x at.inside in
     ap (superblock_at (holding_of c.args.t c.args.self.now)) slot ∙ ap (λ h. superblock_at h p.slot) s.holding ∙ at.source.at
