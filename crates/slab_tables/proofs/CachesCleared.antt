@@ -88,6 +88,7 @@ slabs_cleared s i lists w lt heads machine_frames places = record {
   order = w.order;
   paired = w.paired ∙ sym machine_frames;
   small = omega (arith, w.small, machine_frames);
+  superblocks = omega (arith, w.superblocks, machine_frames);
   few = omega (arith, w.few, length-set s.caches i None);
   heads = omega (arith, heads, w.heads, length-set s.caches i None);
   totals = length-set s.live i 0 ∙ (w.totals ∙ sym (length-set s.caches i None));

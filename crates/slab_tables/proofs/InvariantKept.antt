@@ -1,11 +1,11 @@
 -- Each change of the tables keeps their invariant.
 use Rattle.std.proofs.Common.{◌≡◌, ℕ, ◌+◌, ◌-◌, ◌*◌, ◌/◌, ◌%◌, ◌^◌, ◌<◌, ◌≤◌, Bool, true, false, cond, List, Option, Some, None, length, get_or, set, replicate, refl, sym, ap, ◌∙◌, subst, inl, inr, arith}
-use Rattle.std.proofs.Math.Nat.{pow-le-pow_right, mul-le-mul}
+use Rattle.std.proofs.Math.Nat.{mul-le-mul_right}
 use Rattle.std.proofs.lemmas.Bool.{cases_eq, eq-eqb, ne_eqb, lt-ltb}
 use Rattle.std.proofs.lemmas.List.{length-set, length-replicate, get_or-set_same, get_or-set_other, set-get_or, get_or_read}
 use Rattle.klist_core.specs.Places.{place_at}
 use Rattle.klist_core.proofs.PlacesChanged.{placed_within}
-use Rattle.model_core.specs.declared.limits.TheConstants.{MAX_CACHES, MAX_ORDER, MAX_SUPERBLOCKS, MAX_TENANTS}
+use Rattle.model_core.specs.declared.limits.TheConstants.{MAX_CACHES, WIDE_ORDER, WIDE_SUPERBLOCKS, WIDE_TENANTS, WIDE_FRAMES}
 use Rattle.model_core.proofs.Lists.{everywhere}
 use Rattle.slab_tables.specs.declared.cache.Cache.{Cache}
 use Rattle.slab_tables.specs.declared.cache.Kept.{Kept}
@@ -38,6 +38,7 @@ slabs_machine_frame s machine_frame p k live w lt stands size counts = record {
   order = w.order;
   paired = length-set s.kept machine_frame k ∙ (w.paired ∙ sym (length-set s.lists.places machine_frame p));
   small = omega (arith, w.small, length-set s.lists.places machine_frame p);
+  superblocks = omega (arith, w.superblocks, length-set s.lists.places machine_frame p);
   few = w.few;
   heads = w.heads;
   totals = size ∙ w.totals;
@@ -75,6 +76,7 @@ slabs_cache s i o w lt fits stands = record {
   order = w.order;
   paired = w.paired;
   small = w.small;
+  superblocks = w.superblocks;
   few = omega (arith, w.few, length-set s.caches i o);
   heads = omega (arith, w.heads, length-set s.caches i o);
   totals = w.totals ∙ sym (length-set s.caches i o);
@@ -188,7 +190,7 @@ part_elsewhere t c kind first n k lt ne = ap (λ b. cond b k.live 0) (ne_eqb (he
 -- the total of cache c is at least the number of live objects in the slab at the machine frame, and at most 2 ^ 24
 pub record IsTotal (s : Content) (t c machine_frame : ℕ) : Type 0 where
   pub at_least : (kept_at s.kept machine_frame).live ≤ get_or s.live (index_of_cache t c) 0
-  pub at_most : get_or s.live (index_of_cache t c) 0 ≤ 256 * 2 ^ 16
+  pub at_most : get_or s.live (index_of_cache t c) 0 ≤ 256 * WIDE_FRAMES
 
 pub total_of : (s : Content) (t c first machine_frame : ℕ) → IsSlabs s → index_of_cache t c < length s.caches → IsPlacedIn s t c first machine_frame → IsTotal s t c machine_frame
 total_of s t c first machine_frame w below p =
@@ -290,11 +292,12 @@ counting s t c cache first machine_frame count total k w tenant e p few read rea
     }
 
 -- the invariant holds for tables that have no caches and no slabs
-pub slabs_opening : (top superblocks tenants : ℕ) → top ≤ MAX_ORDER → superblocks ≤ MAX_SUPERBLOCKS → tenants ≤ MAX_TENANTS → IsSlabs (empty_tables top superblocks tenants)
-slabs_opening top superblocks tenants order few_superblocks few_tenants = record {
+pub slabs_opening : (top superblocks tenants : ℕ) → top ≤ WIDE_ORDER → superblocks ≤ WIDE_SUPERBLOCKS → tenants ≤ WIDE_TENANTS → superblocks * 2 ^ top ≤ WIDE_FRAMES → IsSlabs (empty_tables top superblocks tenants)
+slabs_opening top superblocks tenants order few_superblocks few_tenants frames = record {
   order = order;
   paired = length-replicate machine_frames blank ∙ sym (length-replicate machine_frames unplaced);
-  small = omega (arith, length-replicate machine_frames unplaced, small);
+  small = omega (arith, length-replicate machine_frames unplaced, frames);
+  superblocks = omega (arith, length-replicate machine_frames unplaced, mul-le-mul_right (2 ^ top) few_superblocks);
   few = omega (arith, length-replicate (MAX_CACHES * tenants) uncached);
   heads = omega (arith, length-replicate (MAX_CACHES * tenants) uncached);
   totals = length-replicate (MAX_CACHES * tenants) 0 ∙ sym (length-replicate (MAX_CACHES * tenants) uncached);
@@ -312,6 +315,3 @@ slabs_opening top superblocks tenants order few_superblocks few_tenants = record
 
     uncached : Option Cache
     uncached = None
-
-    small : superblocks * 2 ^ top ≤ 2 ^ 16
-    small = let powers : 2 ^ top ≤ 2 ^ 8 = pow-le-pow_right {n = 2} (omega arith) order in omega (arith, mul-le-mul {n₁ = superblocks} {m₁ = 2 ^ top} few_superblocks powers)

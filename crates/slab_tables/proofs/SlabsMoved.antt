@@ -4,7 +4,7 @@ use Rattle.std.proofs.Math.Nat.{pow-le-pow_right, add-mul}
 use Rattle.std.proofs.lemmas.Bool.{cases_eq}
 use Rattle.std.proofs.lemmas.Nat.{div-mul-add}
 use Rattle.std.proofs.lemmas.List.{length-set, get_or-set_same, get_or-set_other}
-use Rattle.model_core.specs.declared.limits.TheConstants.{MAX_ORDER}
+use Rattle.model_core.specs.declared.limits.TheConstants.{WIDE_ORDER}
 use Rattle.klist_core.specs.Places.{place_at, replaced}
 use Rattle.slab_tables.specs.declared.cache.Cache.{Cache}
 use Rattle.slab_tables.specs.declared.cache.Kept.{Kept}
@@ -42,6 +42,7 @@ module _ (s : Content) (a b : ℕ) (paired : length s.kept ≡ length s.lists.pl
     order = w.order;
     paired = length-set s.kept b _ ∙ (w.paired ∙ sym (length-set (set s.lists.places a None) b _ ∙ length-set s.lists.places a None));
     small = omega (arith, w.small, length-set (set s.lists.places a None) b (place_at s.lists.places a), length-set s.lists.places a None);
+    superblocks = omega (arith, w.superblocks, length-set (set s.lists.places a None) b (place_at s.lists.places a), length-set s.lists.places a None);
     few = w.few;
     heads = w.heads;
     totals = w.totals;
@@ -180,12 +181,12 @@ pub record IsStep (s s' : Content) (from to i a b : ℕ) : Type 0 where
   pub from_lt : from * 2 ^ s.top + i < length s'.lists.places
   pub to_lt : to * 2 ^ s.top + i < length s'.lists.places
 
-pub frames_are : (order top : ℕ) → order ≡ top → top ≤ MAX_ORDER → 1 * 2 ^ order % 4294967296 ≡ 2 ^ top
+pub frames_are : (order top : ℕ) → order ≡ top → top ≤ WIDE_ORDER → 1 * 2 ^ order % 4294967296 ≡ 2 ^ top
 frames_are order top same few =
-    let powers : 2 ^ top ≤ 2 ^ 8 = pow-le-pow_right {n = 2} (omega arith) few in
+    let powers : 2 ^ top ≤ 2 ^ WIDE_ORDER = pow-le-pow_right {n = 2} (omega arith) few in
     ap (λ x. 1 * 2 ^ x % 4294967296) same ∙ omega (arith, powers)
 
-pub step : (s s' : Content) (from to i order a b : ℕ) → order ≡ s.top → s.top ≤ MAX_ORDER → i < 1 * 2 ^ order % 4294967296 → a ≡ from * 2 ^ order + i → b ≡ to * 2 ^ order + i
+pub step : (s s' : Content) (from to i order a b : ℕ) → order ≡ s.top → s.top ≤ WIDE_ORDER → i < 1 * 2 ^ order % 4294967296 → a ≡ from * 2 ^ order + i → b ≡ to * 2 ^ order + i
     → (from + 1) * 2 ^ s.top ≤ length s.lists.places → (to + 1) * 2 ^ s.top ≤ length s.lists.places → length s'.lists.places ≡ length s.lists.places
     → IsStep s s' from to i a b
 step s s' from to i order a b same few lt from_is to_is from_in to_in machine_frames =

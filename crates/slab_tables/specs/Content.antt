@@ -1,6 +1,6 @@
 -- The tables of the caches and slabs of all tenants. A slab is named by the machine frame at which it begins.
 use Rattle.std.specs.Prelude.{◌≡◌, ℕ, ◌+◌, ◌*◌, ◌/◌, ◌%◌, ◌^◌, ◌<◌, ◌≤◌, ◌==◌, Bool, true, false, nat_lt, if◌then◌else◌, List, [], ◌∷◌, Option, Some, None, length, replicate, slice_index, slice_index_or}
-use Rattle.model_core.specs.declared.limits.TheConstants.{MAX_CACHES, MAX_ORDER}
+use Rattle.model_core.specs.declared.limits.TheConstants.{MAX_CACHES, WIDE_ORDER, WIDE_SUPERBLOCKS, WIDE_TENANTS, WIDE_FRAMES}
 use Rattle.model_core.specs.Layouts.{Layout, IsLayout, is_size, is_alignment, is_pattern}
 use Rattle.layout_core.specs.Cut.{numbers_of}
 use Rattle.layout_core.specs.Objects.{IsColour}
@@ -90,10 +90,11 @@ live_total n (p ∷ places) (k ∷ kept) = (if is_of_index n p then k.live else 
 
 -- the invariant of the tables
 pub record IsSlabs (s : Content) : Type 0 where
-  pub order : s.top ≤ MAX_ORDER
+  pub order : s.top ≤ WIDE_ORDER
   pub paired : length s.kept ≡ length s.lists.places
-  pub small : length s.lists.places ≤ 2 ^ 16
-  pub few : length s.caches ≤ 2 ^ 11
+  pub small : length s.lists.places ≤ WIDE_FRAMES
+  pub superblocks : length s.lists.places ≤ WIDE_SUPERBLOCKS * 2 ^ s.top
+  pub few : length s.caches ≤ MAX_CACHES * WIDE_TENANTS
   pub heads : s.lists.heads ≡ length s.caches * 3
   pub totals : length s.live ≡ length s.caches
   pub fits : (n : ℕ) (c : Cache) → cache_in s.caches n ≡ Some c → IsTableCache c

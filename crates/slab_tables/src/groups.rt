@@ -1,7 +1,7 @@
 //! Hints about where to look for the slabs of a list. Only the cost of changing a list depends on them.
 
 ghost use Rattle.std.specs.Prelude.{◌≡◌, ◌^◌, ◌<◌, ◌≤◌};
-ghost use Rattle.model_core.specs.declared.limits.TheConstants.{MAX_ORDER};
+ghost use Rattle.model_core.specs.declared.limits.TheConstants.{WIDE_ORDER};
 
 use model_core::limits::MAX_CACHES;
 use std::alloc::{AllocError, Global};
@@ -28,7 +28,7 @@ pub(crate) struct Groups {
     /// Each tenant has `2^row` entries in `superblocks`.
     row: u8,
     superblocks: Vec<u32>,
-    ghost order_small: { order ≤ MAX_ORDER },
+    ghost order_small: { order ≤ WIDE_ORDER },
     ghost group_small: { group ≤ 5 },
     ghost span_small: { span ≤ 32 },
     ghost row_small: { row ≤ 16 },
@@ -43,7 +43,7 @@ impl Groups {
         superblocks: u16,
         tenants: u8,
     ) -> Result<Groups, AllocError>
-        requires { order ≤ MAX_ORDER }
+        requires { order ≤ WIDE_ORDER }
     {
         let group = order.min(GROUP_ORDER);
         let groups = u32::from(superblocks) << (order - group);

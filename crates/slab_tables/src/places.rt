@@ -1,7 +1,7 @@
 //! The index of a cache among the caches of all tenants, and the lists of slabs with their hints.
 
 ghost use Rattle.std.specs.Prelude.{◌≡◌, ◌≢◌, ℕ, ◌+◌, ◌*◌, ◌^◌, ◌<◌, ◌≤◌, true, Some, None, length, replicate, IsSome, IfSome, IfOk, MatchOption};
-ghost use Rattle.model_core.specs.declared.limits.TheConstants.{MAX_ORDER, MAX_SUPERBLOCKS, MAX_TENANTS, MAX_CACHES};
+ghost use Rattle.model_core.specs.declared.limits.TheConstants.{WIDE_ORDER, WIDE_SUPERBLOCKS, WIDE_TENANTS, MAX_CACHES};
 ghost use Rattle.klist_core.specs.Places.{IsByKey, IsPlacedByKey, IsEmpty, place_at, is_in, inserted, removed, replaced};
 ghost use Rattle.slab_tables.specs.Content.{index_of_cache, head_of, kind_of};
 ghost use Rattle.slab_tables.specs.Changes.{IsEmptied};
@@ -24,7 +24,7 @@ pub(crate) fn index_of(t: u8, c: u32) -> usize
 
 /// Returns the machine frame of frame `i` of the superblock, which has `2^order` frames.
 pub(crate) fn machine_frame_at(order: u8, superblock: u16, i: u32) -> u32
-    requires order { order ≤ MAX_ORDER }
+    requires order { order ≤ WIDE_ORDER }
     requires frame { i < 2 ^ order }
     ensures { result ≡ superblock * 2 ^ order + i }
 {
@@ -65,9 +65,9 @@ impl SlabLists {
         superblocks: u16,
         tenants: u8,
     ) -> Result<SlabLists, AllocError>
-        requires order { order ≤ MAX_ORDER }
-        requires superblocks { superblocks ≤ MAX_SUPERBLOCKS }
-        requires tenants { tenants ≤ MAX_TENANTS }
+        requires order { order ≤ WIDE_ORDER }
+        requires superblocks { superblocks ≤ WIDE_SUPERBLOCKS }
+        requires tenants { tenants ≤ WIDE_TENANTS }
         ensures { IfOk result (λ s. s ≡ record { heads = MAX_CACHES * tenants * 3; places = replicate (superblocks * 2 ^ order) None }) }
     {
         let machine_frames = u32::from(superblocks) << order;

@@ -3,7 +3,7 @@
 ghost use Rattle.std.specs.Prelude.{◌≡◌, ◌≢◌, ℕ, ◌<◌, ◌≤◌, ◌==◌, ◌^◌, ◌*◌, ◌+◌, Some, None, length, is_none, slice_index, option_map, IfOk, IfSome, IfNone, IsSome, MatchOption};
 ghost use Rattle.klist_core.specs.Places.{ArePlaces, IsEmpty, IsFirst, place_at, inserted};
 ghost use Rattle.klist_core.specs.Lists.{keys_of};
-ghost use Rattle.model_core.specs.declared.limits.TheConstants.{MAX_CACHES, MAX_ORDER, MAX_SUPERBLOCKS, MAX_TENANTS};
+ghost use Rattle.model_core.specs.declared.limits.TheConstants.{MAX_CACHES, WIDE_ORDER, WIDE_SUPERBLOCKS, WIDE_TENANTS, WIDE_FRAMES};
 ghost use Rattle.slab_tables.specs.Content.{IsSlabs, IsTenant, IsPlacedIn, empty_tables, kept_at, cache_at, index_of_cache, head_of, kind_number, layout_numbers};
 ghost use Rattle.slab_tables.specs.Changes.{with_new_slab, with_count, with_outside, without_slab, with_cache, new_cache, IsLeastNumber, IsAllUsed, IsCleared, IsReset, IsMoved, with_slab_moved};
 
@@ -41,7 +41,8 @@ impl Model for Tables {
 
 impl Tables {
     /// Makes tables without caches or slabs, for `superblocks` superblocks of `2^order` frames and `tenants` tenants.
-    /// `superblocks` is at most `MAX_SUPERBLOCKS`, `order` at most `MAX_ORDER`, and `tenants` at most `MAX_TENANTS`.
+    /// `superblocks` is at most `WIDE_SUPERBLOCKS`, `order` at most `WIDE_ORDER`, and `tenants` at most `WIDE_TENANTS`. The machine has at
+    /// most `WIDE_FRAMES` frames.
     ///
     /// Allocates all memory that will ever be used. Returns `AllocError` if the allocator refuses it.
     pub fn new(
@@ -50,9 +51,10 @@ impl Tables {
         superblocks: u16,
         tenants: u8,
     ) -> Result<Tables, AllocError>
-        requires order { order ≤ MAX_ORDER }
-        requires superblocks { superblocks ≤ MAX_SUPERBLOCKS }
-        requires tenants { tenants ≤ MAX_TENANTS }
+        requires order { order ≤ WIDE_ORDER }
+        requires superblocks { superblocks ≤ WIDE_SUPERBLOCKS }
+        requires tenants { tenants ≤ WIDE_TENANTS }
+        requires frames { superblocks * 2 ^ order ≤ WIDE_FRAMES }
         ensures { IfOk result (λ s. s ≡ empty_tables order superblocks tenants) }
     {
         let machine_frames = u32::from(superblocks) << order;
