@@ -2,13 +2,13 @@
 use Rattle.std.proofs.Common.{◌≡◌, ℕ, zero, suc, ◌+◌, ◌-◌, ◌*◌, ◌/◌, ◌^◌, ◌<◌, ◌≤◌, Bool, true, Option, Some, None, List, length, take, get_or, refl, sym, ap, ◌∙◌, subst, ⊎_elim, add-one, arith}
 use Rattle.std.specs.Prelude.{is_some}
 use Rattle.std.specs.List.{sum_by, count_by}
-use Rattle.std.proofs.Math.Nat.{add-mul, zero-mul, mul_comm, mul-one, div-eq_of_lt-le, div-lt_iff_lt-mul, pow-le-pow_right}
+use Rattle.std.proofs.Math.Nat.{add-mul, zero-mul, mul_comm, mul-one, div-eq_of_lt-le, div-lt_iff_lt-mul}
 use Rattle.std.proofs.Math.Seq.{take-length}
 use Rattle.std.proofs.lemmas.Bool.{cases_lt, false≢true}
 use Rattle.std.proofs.lemmas.List.{get_or_past}
 use Rattle.std.proofs.lemmas.List.Sums.{sum_by_more, count_by-le-length}
 use Rattle.std.proofs.lemmas.Nat.{mul-le, pow_pos}
-use Rattle.model_core.specs.declared.limits.TheConstants.{MAX_FRAMES}
+use Rattle.model_core.specs.declared.limits.TheConstants.{WIDE_FRAMES}
 use Rattle.model_core.specs.Blocks.{block, IsSound}
 use Rattle.model_core.specs.Choice.{is_free, count_below}
 use Rattle.model_core.proofs.BlocksApart.{has_first}
@@ -161,10 +161,5 @@ figures_fit b t w tenant = record {
     h : buddies.Holding
     h = buddies.holding_of t b
 
-    -- all superblocks together have at most 65,536 frames
-    all : b.superblocks * 2 ^ b.top ≤ MAX_FRAMES
-    all =
-        let few = w.sizes.few in
-        let power : 2 ^ b.top ≤ 2 ^ 8 = pow-le-pow_right (omega arith) w.sizes.small in
-        let product = mul-le b.superblocks (2 ^ b.top) 256 256 few (omega arith) in
-        omega arith
+    all : b.superblocks * 2 ^ b.top ≤ WIDE_FRAMES
+    all = w.sizes.frames

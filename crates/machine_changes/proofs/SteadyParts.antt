@@ -5,7 +5,7 @@ use Rattle.std.proofs.lemmas.Bool.{false≢true, eqb-true, eq-eqb, ltb-true, lt-
 use Rattle.std.proofs.lemmas.List.{get_or_past}
 use Rattle.std.proofs.lemmas.Nat.{div-add-mod'}
 use Rattle.model_core.specs.Blocks.{IsSound}
-use Rattle.model_core.specs.declared.limits.TheConstants.{MAX_CACHES, MAX_FRAMES}
+use Rattle.model_core.specs.declared.limits.TheConstants.{MAX_CACHES, WIDE_FRAMES}
 use Rattle.layout_core.specs.Objects.{IsColour}
 use Rattle.klist_core.specs.Places.{place_at}
 use Rattle.space_core.specs.Content as spaces
@@ -141,12 +141,12 @@ module _ (r : spaces.Content) (b : buddies.Content) (s : Content) (w : IsSlabs s
     held_is : buddies.is_held (buddies.holding_of t b) ≡ (λ u. is_some (spaces.superblock_at r.slots t u))
     held_is = λ i u. ap is_some (a.slots t u) i
 
-    few : (f k : ℕ) → buddies.taken_of (buddies.holding_of t b) f ≡ Some k → f < MAX_FRAMES
+    few : (f k : ℕ) → buddies.taken_of (buddies.holding_of t b) f ≡ Some k → f < WIDE_FRAMES
     few f k e =
         let less : f < length (buddies.holding_of t b).taken = within (buddies.holding_of t b).taken f k e in
         let frames : length (buddies.holding_of t b).taken ≡ length s.lists.places =
         sized.taken t tenant ∙ ap (λ top. b.superblocks * 2 ^ top) a.order ∙ sym a.machine_frames in
-        let small : length s.lists.places ≤ MAX_FRAMES = w.small in
+        let small : length s.lists.places ≤ WIDE_FRAMES = w.small in
         omega arith
 
     pub steady : IsSteady r b s t

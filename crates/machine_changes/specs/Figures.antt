@@ -1,6 +1,6 @@
 -- The figures of a report about a tenant's machine follow from the buddy system.
 use Rattle.std.specs.Prelude.{◌≡◌, ℕ, zero, suc, ◌+◌, ◌*◌, ◌^◌, ◌<◌, ◌≤◌, length}
-use Rattle.model_core.specs.declared.limits.TheConstants.{MAX_FRAMES}
+use Rattle.model_core.specs.declared.limits.TheConstants.{WIDE_FRAMES}
 use Rattle.model_core.specs.Machine.{Machine}
 use Rattle.model_core.specs.Reports.{frames_held, frames_taken, free_count, taken_count}
 use Rattle.space_core.specs.Content as spaces
@@ -30,12 +30,12 @@ abbrev pub FiguresMeet : Type 0
 FiguresMeet = (r : spaces.Content) (b : buddies.Content) (s : Content) (t : ℕ) (m : Machine)
     → Agree r b s → IsSteady r b s t → buddies.BuddyLaws b → t < length b.tenants → ShowsMachine r b s t m → HasFigures b t m
 
--- A tenant's slots have at most 65,536 frames. The tenant has at most 65,536 free and 65,536 taken blocks of each order. The
--- taken blocks are disjoint, so together they have at most as many frames as the slots.
+-- A tenant's slots have at most WIDE_FRAMES frames. Of each order the tenant has at most WIDE_FRAMES free blocks and as many taken
+-- ones. The taken blocks are disjoint, so together they have at most as many frames as the slots.
 pub record AreWithin (b : buddies.Content) (t : ℕ) : Type 0 where
-  pub held : buddies.held_slots (buddies.holding_of t b) * 2 ^ b.top ≤ MAX_FRAMES
-  pub free : (k : ℕ) → buddies.free_block_count b.top b.superblocks k (buddies.holding_of t b) ≤ MAX_FRAMES
-  pub taken : (k : ℕ) → buddies.taken_block_count k (buddies.holding_of t b) ≤ MAX_FRAMES
+  pub held : buddies.held_slots (buddies.holding_of t b) * 2 ^ b.top ≤ WIDE_FRAMES
+  pub free : (k : ℕ) → buddies.free_block_count b.top b.superblocks k (buddies.holding_of t b) ≤ WIDE_FRAMES
+  pub taken : (k : ℕ) → buddies.taken_block_count k (buddies.holding_of t b) ≤ WIDE_FRAMES
   pub frames : (n : ℕ) → n ≤ b.top + 1 → frames_below (buddies.holding_of t b) n ≤ buddies.held_slots (buddies.holding_of t b) * 2 ^ b.top
 
 abbrev pub FiguresFit : Type 0

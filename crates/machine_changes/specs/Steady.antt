@@ -1,6 +1,6 @@
 -- The premise of the laws: facts about one tenant that hold if the parts agree.
 use Rattle.std.specs.Prelude.{◌≡◌, ℕ, ◌<◌, Some, is_some}
-use Rattle.model_core.specs.declared.limits.TheConstants.{MAX_FRAMES}
+use Rattle.model_core.specs.declared.limits.TheConstants.{WIDE_FRAMES}
 use Rattle.model_core.specs.Blocks.{IsSound}
 use Rattle.model_core.specs.Layouts.{IsLayout}
 use Rattle.layout_core.specs.Objects.{IsColour}
@@ -23,7 +23,7 @@ pub record IsSteady (r : spaces.Content) (b : buddies.Content) (s : Content) (t 
   pub listed : (f n head key : ℕ) → machine_frame_of s.top r.slots t f ≡ Some n → place_at s.lists.places n ≡ Some (head, key)
       → (c : ℕ) × (cache : own.Cache) × IsSlab r s t c f n cache
   pub sound : IsSound s.top (λ u. is_some (spaces.superblock_at r.slots t u)) (buddies.taken_of (buddies.holding_of t b))
-  -- taken blocks begin at frames below 65,536, so their first places fit in 32 bits
-  pub few : (f k : ℕ) → buddies.taken_of (buddies.holding_of t b) f ≡ Some k → f < MAX_FRAMES
+  -- taken blocks begin at frames below WIDE_FRAMES, so their first places fit in 32 bits
+  pub few : (f k : ℕ) → buddies.taken_of (buddies.holding_of t b) f ≡ Some k → f < WIDE_FRAMES
   -- no superblock is in two slots of the tenant
   pub apart : (u v m : ℕ) → spaces.superblock_at r.slots t u ≡ Some m → spaces.superblock_at r.slots t v ≡ Some m → u ≡ v

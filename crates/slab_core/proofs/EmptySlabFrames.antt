@@ -4,7 +4,7 @@ use Rattle.std.specs.Prelude.{filter, flat_map}
 use Rattle.std.proofs.lemmas.Bool.{cases_eq, cases_lt, lt-ltb, le-ltb}
 use Rattle.std.proofs.lemmas.List.{length-map}
 use Rattle.std.proofs.Math.Nat.{pow-le-pow_right, mul-le-mul_left}
-use Rattle.model_core.specs.declared.limits.TheConstants.{MAX_FRAMES}
+use Rattle.model_core.specs.declared.limits.TheConstants.{WIDE_FRAMES}
 use Rattle.model_core.specs.Machine.{Slab, Cache, Machine, layout, slab_block}
 use Rattle.model_core.specs.Slabs.{cache_of, is_empty, empty_blocks}
 use Rattle.model_core.specs.CacheOperations.{frames_of}
@@ -104,8 +104,8 @@ below_all c (x ∷ xs) all =
     ap (λ v. cond v (x ∷ below c xs) (below c xs)) (lt-ltb x.number c (all x (inl refl)))
     ∙ ap (λ ys. x ∷ ys) (below_all c xs (λ y i. all y (inr i)))
 
--- the number of frames in up to 65,536 slabs of order at most 3 fits in 32 bits and is at most 524,288
-pub frames_few : (count order : ℕ) → count ≤ MAX_FRAMES → order ≤ 3 → (count * 2 ^ order % 4294967296 ≡ count * 2 ^ order) × (count * 2 ^ order ≤ 524288)
+-- the number of frames in up to WIDE_FRAMES slabs of order at most 3 fits in 32 bits
+pub frames_few : (count order : ℕ) → count ≤ WIDE_FRAMES → order ≤ 3 → (count * 2 ^ order % 4294967296 ≡ count * 2 ^ order) × (count * 2 ^ order ≤ 8388608)
 frames_few count order few small =
     let power : 2 ^ order ≤ 2 ^ 3 = pow-le-pow_right (omega arith) small in
     let rows : count * 2 ^ order ≤ count * 8 = mul-le-mul_left count power in

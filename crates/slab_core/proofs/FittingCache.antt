@@ -5,7 +5,7 @@ use Rattle.std.proofs.Math.Nat.{div-mul-le_self, div-lt_iff_lt-mul}
 use Rattle.std.proofs.lemmas.Nat.{pow_pos}
 use Rattle.std.proofs.lemmas.Bool.{cases_lt, cases_eq, ne_eqb}
 use Rattle.model_core.specs.Blocks.{around}
-use Rattle.model_core.specs.declared.limits.TheConstants.{MAX_CACHES, MAX_FRAMES}
+use Rattle.model_core.specs.declared.limits.TheConstants.{MAX_CACHES, WIDE_FRAMES}
 use Rattle.klist_core.specs.Places.{place_at, NoneAbove, IsNext}
 use Rattle.space_core.specs.Content as spaces
 use Rattle.buddy_core.specs.Content as buddies
@@ -16,10 +16,10 @@ use Rattle.slab_core.specs.Fitting.{IsUnusedBlock, WouldFitAround, AreRefused}
 use Rattle.slab_core.proofs.LargeFreeBlocks.{held_within}
 use Rattle.slab_core.proofs.IdleFrames.{listed_taken}
 
--- 65,536 minus the first frame of the slab that the search reaches next, or 0 if no slab is left
+-- WIDE_FRAMES minus the first frame of the slab that the search reaches next, or 0 if no slab is left
 abbrev pub left : Option (ℕ × ℕ) → ℕ
 left None = 0
-left (Some p) = MAX_FRAMES - p.0
+left (Some p) = WIDE_FRAMES - p.0
 
 -- `next` is the entry with the next key in list p.0, after key p.1, or `None` if there is none
 abbrev pub Follows : List (Option (ℕ × ℕ)) → Option (ℕ × ℕ) → ℕ × ℕ → Type 0
@@ -44,7 +44,7 @@ module _ {r : spaces.Content} {b : buddies.Content} {s : Content} {t c k : ℕ} 
   next_is is e = subst (λ o. MatchOption o (WouldFitAround r b s t c k → ⊥) (λ p. IsNextSlab r b s t c k p.0 p.1)) e is.rest
 
   module _ {slab machine_frame : ℕ} (here : IsNextSlab r b s t c k slab machine_frame) where
-    pub slab_small : IsSlabs s → Agree r b s → IsSteady r b s t → c < MAX_CACHES → slab < MAX_FRAMES
+    pub slab_small : IsSlabs s → Agree r b s → IsSteady r b s t → c < MAX_CACHES → slab < WIDE_FRAMES
     slab_small w a st less = let taken = listed_taken r b s t c slab machine_frame w a less here.placed in st.few slab taken.0 taken.1
 
     -- the slab's first frame is below the number of machine frames
@@ -65,7 +65,7 @@ module _ {r : spaces.Content} {b : buddies.Content} {s : Content} {t c k : ℕ} 
         subst (λ (o : Option (ℕ × ℕ)). IfSome o (Follows s.lists.places next)) here.placed
         (subst (λ (xs : List (Option (ℕ × ℕ))). IfSome (place_at xs machine_frame) (Follows xs next)) same after)
 
-    pub left_less : (next : Option (ℕ × ℕ)) → slab < MAX_FRAMES → IsAfter next → left next < left (Some (slab, machine_frame))
+    pub left_less : (next : Option (ℕ × ℕ)) → slab < WIDE_FRAMES → IsAfter next → left next < left (Some (slab, machine_frame))
     left_less None small after = omega arith
     left_less (Some q) small after = let above = after.above in omega arith
 
@@ -99,5 +99,5 @@ refused_more r b s t k before after i refused more none n is = elim (cases_eq n 
   | inr other ↦ refused n (sym (ap (λ v. v || before n) (ne_eqb n i other)) ∙ sym (more n) ∙ is)
 ]
 
-pub first_small : (x k : ℕ) → x < MAX_FRAMES → (around x k).first < MAX_FRAMES
+pub first_small : (x k : ℕ) → x < WIDE_FRAMES → (around x k).first < WIDE_FRAMES
 first_small x k small = let before = div-mul-le_self x (2 ^ k) in omega arith

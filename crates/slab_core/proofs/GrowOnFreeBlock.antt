@@ -9,7 +9,7 @@ use Rattle.model_core.specs.Blocks.{block, HasFrame, IsAligned, IsTaken, IsChoic
 use Rattle.model_core.specs.Machine.{Cache, Machine, choice}
 use Rattle.model_core.specs.Slabs.{cache_of, grown}
 use Rattle.model_core.specs.Layouts.{IsLayout, is_small, in_object, object_place, pattern_byte}
-use Rattle.model_core.specs.declared.limits.TheConstants.{MAX_CACHES, MAX_FRAMES}
+use Rattle.model_core.specs.declared.limits.TheConstants.{MAX_CACHES, WIDE_FRAMES}
 use Rattle.model_core.proofs.BlocksApart.{has_first, in_block-true}
 use Rattle.klist_core.specs.Places.{place_at}
 use Rattle.space_core.specs.Content as spaces
@@ -158,7 +158,7 @@ module _ {r : spaces.Content} {b : buddies.Content} {s : Content} {t c : ℕ} {c
       let below : f < f / 2 ^ b.top * 2 ^ b.top + 2 ^ b.top = lt-div-mul-add (pow_pos b.top) in
       omega (arith, below, mul-le-mul_right (2 ^ b.top) slot, chosen.parts.buddy.sizes.taken t known)
 
-  pub few : f < MAX_FRAMES
+  pub few : f < WIDE_FRAMES
   few = omega (arith, frame_within, chosen.parts.buddy.sizes.taken t known, a.machine_frames, ap (λ top. b.superblocks * 2 ^ top) a.order, w.small)
 
   -- no slab begins at machine frame n

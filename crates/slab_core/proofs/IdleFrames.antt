@@ -4,7 +4,7 @@ use Rattle.std.proofs.Math.Nat.{pow-le-pow_right}
 use Rattle.std.proofs.lemmas.Bool.{false≢true, cases_lt}
 use Rattle.std.proofs.lemmas.Nat.{pow_pos}
 use Rattle.model_core.specs.Blocks.{block, HasFrame}
-use Rattle.model_core.specs.declared.limits.TheConstants.{MAX_CACHES, MAX_ORDER}
+use Rattle.model_core.specs.declared.limits.TheConstants.{MAX_CACHES, WIDE_ORDER}
 use Rattle.space_core.specs.Content as spaces
 use Rattle.buddy_core.specs.Content as buddies
 use Rattle.klist_core.specs.Places.{place_at}
@@ -18,8 +18,8 @@ use Rattle.slab_core.specs.Calls.{idle_at}
 use Rattle.slab_core.specs.Fitting.{IsUnusedFrame, IsBorder, IsUnusedTo}
 use Rattle.slab_core.proofs.ReturnEmptySlabs.{idle_tells, idle_is}
 
--- a block of an order of at most 8 has at most 256 frames
-pub small_size : (k : ℕ) → k ≤ MAX_ORDER → 2 ^ k ≤ 256
+-- a block has at most 1,024 frames
+pub small_size : (k : ℕ) → k ≤ WIDE_ORDER → 2 ^ k ≤ 1024
 small_size k small = let two : 0 < 2 = omega arith in pow-le-pow_right two small
 
 -- `idle_at` is true of the first frame of the slab in which an idle frame lies
@@ -29,8 +29,8 @@ idle_begins r s t x i =
     idle_is (λ n. true) r s t i.first i.machine_frame p.head i.first i.slab.under p.place refl i.empty
 
 module _ (r : spaces.Content) (b : buddies.Content) (s : Content) (t : ℕ) (st : IsSteady r b s t) where
-  -- a taken block has an order of at most 8
-  pub order_small : IsSlabs s → (f k : ℕ) → buddies.taken_of (buddies.holding_of t b) f ≡ Some k → k ≤ MAX_ORDER
+  -- a taken block has an order of at most WIDE_ORDER
+  pub order_small : IsSlabs s → (f k : ℕ) → buddies.taken_of (buddies.holding_of t b) f ≡ Some k → k ≤ WIDE_ORDER
   order_small w f k taken = omega (arith, (st.sound.placed f k taken).0.0, w.order)
 
   -- all frames of an empty slab's block are idle

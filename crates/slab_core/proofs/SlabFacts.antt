@@ -1,16 +1,21 @@
 -- Facts about a tenant's slab that hold if the parts agree: its list, its block, its layout and its live objects.
-use Rattle.std.proofs.Common.{◌≡◌, ℕ, ◌/◌, ◌<◌, ◌≤◌, false, Some, length, sym, ap, ◌∙◌, subst}
-use Rattle.model_core.specs.declared.limits.TheConstants.{MAX_CACHES}
+use Rattle.std.proofs.Common.{◌≡◌, ℕ, ◌+◌, ◌*◌, ◌/◌, ◌^◌, ◌<◌, ◌≤◌, false, Some, length, sym, ap, ◌∙◌, subst, arith}
+use Rattle.std.proofs.lemmas.Nat.{pow_pos}
+use Rattle.std.proofs.Math.Nat.{add-mul, lt-div-mul-add}
+use Rattle.model_core.specs.declared.limits.TheConstants.{FRAME_BYTES, MAX_CACHES, WIDE_FRAMES}
 use Rattle.model_core.specs.Layouts.{IsLayout, is_small}
 use Rattle.layout_core.proofs.SlabOrders.{few_objects}
 use Rattle.klist_core.specs.Places.{place_at}
 use Rattle.space_core.specs.Content as spaces
+use Rattle.space_core.specs.Laws.{SpaceLaws}
+use Rattle.space_core.proofs.PlacesEnd.{slot_end}
 use Rattle.buddy_core.specs.Content as buddies
 use Rattle.slab_tables.specs.declared.cache.Cache as own
 use Rattle.slab_tables.specs.Content.{Content, IsSlabs, IsListed, kept_at, cache_in, cache_at, index_of_cache, layout_numbers}
 use Rattle.machine_changes.specs.Records.{count_true}
 use Rattle.machine_changes.specs.Shows.{live_of, is_live, IsSlab, Agree}
 use Rattle.machine_changes.proofs.Lookups.{some_same}
+use Rattle.machine_changes.proofs.SlabFacts.{under_is}
 use Rattle.machine_changes.proofs.SteadyParts.{within, in_table, placed_as, agreed}
 
 -- the facts about the slab of cache c of tenant t that begins at frame f, whose machine frame is n
@@ -64,3 +69,12 @@ module _ {r : spaces.Content} {s : Content} {t c f n : ℕ} {cache : own.Cache} 
   -- the slab's machine frame is below the number of machine frames
   pub machine_frame_within : n < length s.lists.places
   machine_frame_within = let p = placed_as r s t c f n cache q in within s.lists.places n (p.head, f) p.place
+
+  -- the slab's first frame is below WIDE_FRAMES, so all its places fit in 32 bits
+  pub first_small : SpaceLaws r → r.unit ≡ FRAME_BYTES * 2 ^ s.top → f < WIDE_FRAMES
+  first_small laws unit =
+      let under = under_is s.top f n (spaces.superblock_at r.slots t (f / 2 ^ s.top)) q.under in
+      let end : (f / 2 ^ s.top + 1) * r.unit ≤ FRAME_BYTES * WIDE_FRAMES = slot_end laws.facts t (f / 2 ^ s.top) under.0 under.1 in
+      let whole : (f / 2 ^ s.top + 1) * r.unit ≡ (f / 2 ^ s.top + 1) * (FRAME_BYTES * 2 ^ s.top) = ap (λ x. (f / 2 ^ s.top + 1) * x) unit in
+      let below : f < f / 2 ^ s.top * 2 ^ s.top + 2 ^ s.top = lt-div-mul-add (pow_pos s.top) in
+      omega (arith, end, whole, below, add-mul (f / 2 ^ s.top) 1 (2 ^ s.top))

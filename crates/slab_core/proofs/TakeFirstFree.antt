@@ -4,7 +4,7 @@ use Rattle.std.specs.List.{position_or_len}
 use Rattle.std.proofs.lemmas.Bool.{false≢true}
 use Rattle.std.proofs.lemmas.Nat.{row_fits}
 use Rattle.std.proofs.Math.Nat.{pow-le-pow_right, div-div-eq-div-mul}
-use Rattle.model_core.specs.declared.limits.TheConstants.{MAX_FRAMES}
+use Rattle.model_core.specs.declared.limits.TheConstants.{FRAME_BYTES, WIDE_FRAMES}
 use Rattle.model_core.specs.Blocks.{block, HasFrame}
 use Rattle.model_core.proofs.BlocksByNumber.{number_of_frame, same_slot}
 use Rattle.model_core.specs.Layouts.{IsFit, object_offset, object_place}
@@ -15,6 +15,7 @@ use Rattle.model_core.specs.CacheOperations.{hand_out}
 use Rattle.space_core.specs.Content as spaces
 use Rattle.space_core.specs.Windows.{is_in_slot, home_of}
 use Rattle.space_core.proofs.Ranges.{range_held}
+use Rattle.space_core.proofs.PlacesEnd.{home_end}
 use Rattle.buddy_core.specs.Content as buddies
 use Rattle.slab_tables.specs.declared.cache.Cache as own
 use Rattle.slab_tables.specs.Content.{Content, kept_at, layout_numbers}
@@ -68,7 +69,7 @@ module _ {r : spaces.Content} {b : buddies.Content} {s : Content} {t c f n i : �
   pub not_live : is_live r t cache (kept_at s.kept n) f i ≡ false
   not_live = sym (flag_at (layout_numbers cache).count i (is_live r t cache (kept_at s.kept n) f) false object_below) ∙ is_down.down
 
-  pub first_few : f < MAX_FRAMES
+  pub first_few : f < WIDE_FRAMES
   first_few = o.steady.few f (layout_numbers cache).order h.taken
 
   pub offset_few : object_offset (layout_numbers cache) (kept_at s.kept n).colour i < 32769
@@ -119,6 +120,10 @@ module _ {r : spaces.Content} {b : buddies.Content} {s : Content} {t c f n i : �
         go : (v : Bool) (found : Option ℕ) → IsSome (if v then found else None) → found ≡ Some (n / 2 ^ s.top) → (if v then found else None) ≡ Some (n / 2 ^ s.top)
         go true found some is = is
         go false found none is = absurd (false≢true none)
+
+    -- the object ends at or below 2 ^ 32
+    pub end_small : place + size ≤ FRAME_BYTES * WIDE_FRAMES
+    end_small = home_end o.parts.space.facts t place size (n / 2 ^ s.top) home_is
 
   module _ (m : Machine) (x : model.Cache) (y : model.Slab) (g : ShowsMachine r b s t m) (ex : cache_of m c ≡ Some x) (ey : slab_of x f ≡ Some y) where
     slab_is : y ≡ shown r s t c cache o.slab.cached f n

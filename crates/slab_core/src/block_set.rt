@@ -5,8 +5,8 @@ ghost use Rattle.slab_core.specs.Fitting.{has_number};
 
 use std::alloc::{AllocError, Global};
 
-/// The number of words in a set with one bit for each frame that a tenant can have.
-pub(crate) const MAX_WORDS: usize = 1024;
+/// The number of words in a set with one bit for each of `WIDE_FRAMES` frames, as many as a tenant can have.
+pub(crate) const MAX_WORDS: usize = 16_384;
 
 /// Returns true if the set contains the block with this number.
 pub(crate) fn has_block(words: &[u64], number: u32) -> bool

@@ -1,7 +1,7 @@
 //! Decides whether a block would fit if all empty slabs were freed.
 
 ghost use Rattle.std.specs.Prelude.{◌≡◌, ◌↔◌, ℕ, ◌-◌, ◌*◌, ◌^◌, ◌<◌, ◌≤◌, true, false, is_some, length, MatchOption};
-ghost use Rattle.model_core.specs.declared.limits.TheConstants.{MAX_CACHES, MAX_FRAMES, MAX_ORDER};
+ghost use Rattle.model_core.specs.declared.limits.TheConstants.{MAX_CACHES, WIDE_FRAMES, WIDE_ORDER};
 ghost use Rattle.model_core.specs.Machine.{Machine, choice};
 ghost use Rattle.model_core.specs.Slabs.{reaped};
 ghost use Rattle.machine_changes.specs.Fitting.{WouldFit};
@@ -39,7 +39,8 @@ impl Slabs {
     /// Returns true if a block of order `k` would be found for tenant `t` if all empty slabs of the tenant were freed.
     ///
     /// Reads only counts and the heads of lists if a large enough block is free, or if no slab is empty. Otherwise checks only
-    /// the frames of those blocks of order `k` in which empty slabs begin.
+    /// the frames of those blocks of order `k` in which empty slabs begin. The set of blocks that it refuses takes 128 KiB of the
+    /// stack, since it has a bit for each frame that a tenant can have.
     pub fn would_fit(&self, space: &Space, buddy: &Buddy, t: u8, k: u8) -> bool
         requires tenant { t < length space.now.slots }
         requires order { k ≤ self.now.top }
@@ -178,7 +179,7 @@ impl View<'_> {
     /// Returns true if no frame of the block of order `k` at frame `first` is taken, except by empty slabs.
     fn is_unused_block(self, first: u32, k: u8) -> bool
         requires tenant { self.tenant < length self.space.now.slots }
-        requires first { first < MAX_FRAMES }
+        requires first { first < WIDE_FRAMES }
         requires block { IsWhole self.buddy.now self.tenant first k }
         requires parts { HoldTogether self.space.now self.buddy.now self.tables.now }
         requires steady { IsSteady self.space.now self.buddy.now self.tables.now self.tenant }

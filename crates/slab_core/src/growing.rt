@@ -1,7 +1,7 @@
 //! Makes a slab out of a block: clears the control record and constructs each object.
 
 ghost use Rattle.std.specs.Prelude.{◌≡◌, ◌↔◌, ℕ, ◌+◌, ◌*◌, ◌^◌, ◌<◌, length, option_map, Some, IsSome, IfSome, IfNone};
-ghost use Rattle.model_core.specs.declared.limits.TheConstants.{MAX_FRAMES};
+ghost use Rattle.model_core.specs.declared.limits.TheConstants.{WIDE_FRAMES};
 ghost use Rattle.model_core.specs.Layouts.{IsLayout};
 ghost use Rattle.model_core.specs.Machine.{Machine, choice};
 ghost use Rattle.model_core.specs.Slabs.{cache_of, grown, by_need, choice_by_need};
@@ -124,7 +124,7 @@ pub(crate) fn construct(space: &mut Space, cache: TenantCache<'_>, first: u32, c
     requires layout { IsLayout cache.kept.now.layout.size cache.kept.now.layout.align (layout_numbers cache.kept.now) }
     requires in_reach { IsSome (home_of space.old cache.tenant (FRAME_BYTES * first)
         (FRAME_BYTES * 2 ^ (layout_numbers cache.kept.now).order)) }
-    requires first { first < MAX_FRAMES }
+    requires first { first < WIDE_FRAMES }
     requires colour { IsColour cache.kept.now.layout colour }
     ensures { IsConstructed space.old space.new cache.entry.tenant cache.entry.kept.now first colour
         (layout_numbers cache.entry.kept.now).count }
@@ -141,7 +141,7 @@ fn clear_record(space: &mut Space, cache: TenantCache<'_>, first: u32)
     requires laws { SpaceLaws space.old }
     requires in_reach { IsSome (home_of space.old cache.tenant (FRAME_BYTES * first)
         (FRAME_BYTES * 2 ^ (layout_numbers cache.kept.now).order)) }
-    requires first { first < MAX_FRAMES }
+    requires first { first < WIDE_FRAMES }
     ensures { (colour : ℕ) → IsConstructed space.old space.new cache.entry.tenant cache.entry.kept.now first colour 0 }
 {
     if cache.kept.layout.in_page() {
@@ -159,7 +159,7 @@ fn construct_one(space: &mut Space, cache: TenantCache<'_>, first: u32, colour: 
     requires layout { IsLayout cache.kept.now.layout.size cache.kept.now.layout.align (layout_numbers cache.kept.now) }
     requires in_reach { IsSome (home_of space.old cache.tenant (FRAME_BYTES * first)
         (FRAME_BYTES * 2 ^ (layout_numbers cache.kept.now).order)) }
-    requires first { first < MAX_FRAMES }
+    requires first { first < WIDE_FRAMES }
     requires colour { IsColour cache.kept.now.layout colour }
     requires object { i < (layout_numbers cache.kept.now).count }
     ensures { (before : spaces.Content) → IsConstructed before space.old cache.entry.tenant cache.entry.kept.now first colour i

@@ -1,7 +1,7 @@
 //! Finds the object that begins at a place, tests whether it is live, and marks it free.
 
 ghost use Rattle.std.specs.Prelude.{◌≡◌, ℕ, ◌*◌, ◌+◌, ◌/◌, ◌%◌, ◌^◌, ◌<◌, ◌≤◌, Some, length, IfSome, MatchOption, not, true, false};
-ghost use Rattle.model_core.specs.declared.limits.TheConstants.{FRAME_BYTES, MAX_CACHES, MAX_FRAMES, MAX_ORDER, RECORD_OFFSET};
+ghost use Rattle.model_core.specs.declared.limits.TheConstants.{FRAME_BYTES, MAX_CACHES, WIDE_FRAMES, WIDE_ORDER, RECORD_OFFSET};
 ghost use Rattle.model_core.specs.Blocks.{around};
 ghost use Rattle.slab_tables.specs.Content.{Content, IsSlabs, kept_at, cache_at, index_of_cache, layout_numbers};
 ghost use Rattle.machine_changes.specs.Records.{is_set};
@@ -45,7 +45,7 @@ pub(crate) struct Object {
 
 /// Returns the place of the byte that contains the bit of object `index` in the control record in frame `frame`.
 pub(crate) fn record_place(frame: u32, index: u32) -> u32
-    requires frame { frame < MAX_FRAMES }
+    requires frame { frame < WIDE_FRAMES }
     requires index { index < 256 }
     ensures { result ≡ FRAME_BYTES * frame + RECORD_OFFSET + index / 8 }
 {
@@ -117,7 +117,7 @@ pub(crate) fn machine_frame_in(tables: &Tables, space: &Space, t: u8, frame: u32
 #[inline(always)]
 fn machine_frame_under(frame: u32, slot: u32, superblock: u16, order: u8) -> u32
     requires slot { slot ≡ frame / 2 ^ order }
-    requires order { order ≤ MAX_ORDER }
+    requires order { order ≤ WIDE_ORDER }
     ensures { result ≡ superblock * 2 ^ order + frame % 2 ^ order }
 {
     frame.wrapping_add(u32::from(superblock).wrapping_sub(slot) << order)

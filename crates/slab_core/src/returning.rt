@@ -1,7 +1,7 @@
 //! Frees empty slabs: zeroes their frames and returns them to the buddy system.
 
-ghost use Rattle.std.specs.Prelude.{◌≡◌, ℕ, ◌<◌, ◌≤◌, ◌^◌, ◌==◌, ◌↔◌, length, flat_map, Some, true, false, OnErr};
-ghost use Rattle.model_core.specs.declared.limits.TheConstants.{MAX_CACHES};
+ghost use Rattle.std.specs.Prelude.{◌≡◌, ℕ, ◌*◌, ◌<◌, ◌≤◌, ◌^◌, ◌==◌, ◌↔◌, length, flat_map, Some, true, false, OnErr};
+ghost use Rattle.model_core.specs.declared.limits.TheConstants.{MAX_CACHES, WIDE_FRAMES};
 ghost use Rattle.model_core.specs.Machine.{Machine};
 ghost use Rattle.model_core.specs.Slabs.{cache_of, empty_blocks};
 ghost use Rattle.model_core.specs.CacheOperations.{frames_of, reap_step, destroy_step};
@@ -177,7 +177,7 @@ impl Slabs {
     pub(crate) fn empty_frames_of(&self, t: u8, c: u32) -> u32
         requires tenant { IsTenant self.now t }
         requires cache { c < MAX_CACHES }
-        ensures few { result ≤ 2 ^ 19 }
+        ensures few { result ≤ 8 * WIDE_FRAMES }
         ensures frames { (r : spaces.Content) (b : buddies.Content) (m : Machine) → Agree r b self.now → IsSteady r b self.now t
             → ShowsMachine r b self.now t m → result ≡ empty_frames_in (cache_of m c) }
     {

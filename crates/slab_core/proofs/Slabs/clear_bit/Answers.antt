@@ -10,7 +10,7 @@ use Rattle.machine_changes.specs.Records.{is_set}
 use Rattle.machine_changes.specs.Shows.{is_live}
 use Rattle.slab_core.specs.Objects.{found_in, IsTurned}
 use Rattle.slab_core.proofs.BytesRewritten.{window_same}
-use Rattle.slab_core.proofs.SlabFacts.{machine_frame_within, slab_cache}
+use Rattle.slab_core.proofs.SlabFacts.{machine_frame_within, slab_cache, first_small}
 use Rattle.slab_core.proofs.RecordBitTurned.{live_small, live_large, turned_record, turned_outside}
 use Rattle.slab_core.proofs.FirstFreeObject.{record_home, record_read}
 use Rattle.slab_core.proofs.Slabs.clear_bit.Goals as goal
@@ -111,3 +111,6 @@ overflow_cast-object c =
 pub overflow_shl-object : goal.overflow_shl-object
 overflow_shl-object c =
     omega (arith, (slab_cache c.requires.slab c.requires.tables).few_large (sym c.in_page.ensures ∙ c.if-in_page.false), c.requires.index)
+
+pub record_place-place-requires-clause-frame : goal.record_place-place-requires-clause-frame
+record_place-place-requires-clause-frame c = first_small c.requires.slab c.requires.laws c.requires.unit

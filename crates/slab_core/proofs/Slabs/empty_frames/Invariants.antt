@@ -12,7 +12,7 @@ use Rattle.slab_core.proofs.Slabs.empty_frames.Given as goal
 
 abbrev pub invariant-loop-c : goal.invariant-loop-c
 invariant-loop-c l = record {
-  few : l.frames ≤ 524288 * l.c;
+  few : l.frames ≤ 8388608 * l.c;
   frames : (r : spaces.Content) (b : buddies.Content) (m : Machine) → Agree r b l.self → IsSteady r b l.self l.t → ShowsMachine r b l.self l.t m
       → l.frames ≡ frames_of (flat_map empty_blocks (below l.c m.caches));
 }

@@ -1,7 +1,7 @@
 use Rattle.std.proofs.Common.{◌≡◌, ◌*◌, ◌%◌, ◌^◌, ◌≤◌, Some, sym, ap, ◌∙◌, subst, arith}
 use Rattle.std.specs.Prelude.{option_map}
 use Rattle.std.proofs.lemmas.List.Sums.{count_by-le-length}
-use Rattle.model_core.specs.declared.limits.TheConstants.{MAX_FRAMES}
+use Rattle.model_core.specs.declared.limits.TheConstants.{WIDE_FRAMES}
 use Rattle.model_core.specs.Layouts.{IsLayout}
 use Rattle.klist_core.specs.Places.{is_in}
 use Rattle.klist_core.proofs.KeyNodePairs.{lists_count_places}
@@ -18,14 +18,14 @@ cached c = sym c.cache.ensures ∙ ap (option_map (λ x. x.now)) c.in-Some.is
 cut : (c : goal.After-order) → IsLayout c.in-Some.cache.now.layout.size c.in-Some.cache.now.layout.align (layout_numbers c.in-Some.cache.now)
 cut c = (in_tables c.self.inside.tables c.args.t c.args.c c.in-Some.cache.now c.laws.ensures.slabs (cached c)).layout
 
--- the list of empty slabs has at most 65,536 entries
-few : (c : goal.After-order) → c.count.result ≤ MAX_FRAMES
+-- the list of empty slabs has at most WIDE_FRAMES entries
+few : (c : goal.After-order) → c.count.result ≤ WIDE_FRAMES
 few c =
     let places = c.self.inside.tables.lists.places in
     let counted = lists_count_places places (head_of c.args.t c.args.c 2) in
     omega (arith, c.count.ensures, counted.1, count_by-le-length (is_in (head_of c.args.t c.args.c 2)) places, c.laws.ensures.slabs.small)
 
-fits : (c : goal.After-order) → (c.count.result * 2 ^ c.order.result % 4294967296 ≡ c.count.result * 2 ^ c.order.result) × (c.count.result * 2 ^ c.order.result ≤ 524288)
+fits : (c : goal.After-order) → (c.count.result * 2 ^ c.order.result % 4294967296 ≡ c.count.result * 2 ^ c.order.result) × (c.count.result * 2 ^ c.order.result ≤ 8388608)
 fits c = frames_few c.count.result c.order.result (few c) (omega (arith, c.order.ensures, (cut c).order))
 
 pub overflow_shl-result : goal.overflow_shl-result

@@ -10,8 +10,8 @@ use Rattle.slab_tables.specs.Content.{Content, kept_at, layout_numbers}
 use Rattle.machine_changes.specs.Shows.{live_of, ShowsMachine}
 use Rattle.machine_changes.specs.Changes.{Found, found}
 use Rattle.slab_core.specs.Objects.{IsToCount, IsRecounted}
-use Rattle.slab_core.proofs.SlabFacts.{machine_frame_within}
-use Rattle.slab_core.proofs.TakeFirstFree.{IsLeastFree, object_below, not_live, first_few, offset_few, home_is, next_is, answered}
+use Rattle.slab_core.proofs.SlabFacts.{machine_frame_within, slab_cache}
+use Rattle.slab_core.proofs.TakeFirstFree.{IsLeastFree, object_below, not_live, first_few, home_is, end_small, next_is, answered}
 use Rattle.machine_changes.proofs.ObjectMarked.{marked_shows}
 use Rattle.slab_core.proofs.HandedOutIsLive.{marked_object}
 use Rattle.slab_core.proofs.Slabs.hand_out.Goals as goal
@@ -86,10 +86,9 @@ offset_is c =
 pub overflow_add-result : goal.overflow_add-result
 overflow_add-result c =
     let a = (goal.at.overflow_add-result c).After-mark_least_free-index in
-    let few = first_few (next a) in
-    let small = offset_few (next a) in
-    let offset = offset_is c in
-    let fits : 4096 * c.args.slab.first + c.offset.result < 4294967296 = omega arith in
+    let end = end_small (next a) (4096 * c.args.slab.first + c.offset.result) c.args.cache.kept.now.layout.size (ap (λ (n : ℕ). 4096 * c.args.slab.first + n) (offset_is c)) refl in
+    let some = (slab_cache c.requires.slab c.laws_with.ensures.parts.slabs).layout.sized in
+    let fits : 4096 * c.args.slab.first + c.offset.result < 4294967296 = omega (arith, end, some) in
     search (rules, fits)
 
 counted : (c : After-offset) → IsRecounted c.args.space.now c.mark_least_free-index.new.space c.args.buddy.now c.args.self.now c.recount.new.self

@@ -1,6 +1,6 @@
 use Rattle.std.proofs.Common.{sym, ◌∙◌, arith}
 use Rattle.slab_core.proofs.SlabPlaces.{object_under}
-use Rattle.slab_core.proofs.SlabFacts.{machine_frame_within, slab_cache}
+use Rattle.slab_core.proofs.SlabFacts.{machine_frame_within, slab_cache, first_small}
 use Rattle.slab_core.proofs.Slabs.is_live_object.Goals as goal
 
 pub superblock-superblock-requires-clause-machine_frame : goal.superblock-superblock-requires-clause-machine_frame
@@ -20,3 +20,6 @@ overflow_cast-result-else-in_page c =
 pub overflow_shr-result-else-in_page : goal.overflow_shr-result-else-in_page
 overflow_shr-result-else-in_page c =
     omega (arith, (slab_cache c.requires.slab c.requires.tables).few_large (sym c.in_page.ensures ∙ c.if-in_page.false), c.requires.index)
+
+pub record_place-place-requires-clause-frame : goal.record_place-place-requires-clause-frame
+record_place-place-requires-clause-frame c = first_small c.requires.slab c.requires.laws c.requires.unit

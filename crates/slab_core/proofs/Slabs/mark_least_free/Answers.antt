@@ -8,7 +8,7 @@ use Rattle.slab_tables.specs.Content.{Content, layout_numbers, kept_at}
 use Rattle.slab_tables.specs.Changes.{with_outside}
 use Rattle.machine_changes.specs.Changes.{found}
 use Rattle.slab_core.specs.Objects.{IsTurned}
-use Rattle.slab_core.proofs.SlabFacts.{machine_frame_within, slab_cache}
+use Rattle.slab_core.proofs.SlabFacts.{machine_frame_within, slab_cache, first_small}
 use Rattle.slab_core.proofs.RecordBitTurned.{turned_window, turned_outside}
 use Rattle.slab_core.proofs.FirstClearBit.{IsClear, clear_half}
 use Rattle.slab_core.proofs.FirstFreeObject.{record_home, has_clear, claimed_inside, claimed_outside}
@@ -93,3 +93,6 @@ returns-else-in_page-clause-turned c =
     (sym c.in_page.ensures ∙ c.if-in_page.false) (omega (arith, least a, few_large a, c.requires.free))
     (omega (arith, machine_frame_within c.requires.slab, c.requires.tables.paired)) _
     (ap (λ (k : Kept). bit_xor k.outside (1 * 2 ^ o.index % 65536)) (kept_is a)))
+
+pub record_place-requires-clause-frame : goal.record_place-requires-clause-frame
+record_place-requires-clause-frame c = first_small c.requires.slab c.requires.laws c.requires.unit

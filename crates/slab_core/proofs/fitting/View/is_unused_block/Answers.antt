@@ -1,5 +1,5 @@
 use Rattle.std.proofs.Common.{◌≡◌, ◌*◌, ◌/◌, ◌%◌, ◌^◌, ◌≤◌, None, get_or, sym, ap, ◌∙◌, arith}
-use Rattle.model_core.specs.declared.limits.TheConstants.{MAX_ORDER}
+use Rattle.model_core.specs.declared.limits.TheConstants.{WIDE_ORDER}
 use Rattle.model_core.specs.Numbered.{number_at}
 use Rattle.model_core.proofs.BlocksByNumber.{number_of_frame, same_slot}
 use Rattle.buddy_core.proofs.ContentShown.{size_is}
@@ -11,8 +11,8 @@ past_unused-requires-clause-begins c =
     let x = c.args in
     let slabs = c.requires.parts.slabs in
     let agree = c.requires.parts.agree in
-    let top : c.order-order.result ≤ MAX_ORDER = omega (arith, c.order-order.ensures, agree.order, slabs.order) in
-    let k : x.k ≤ MAX_ORDER = omega (arith, c.requires.block.aligned.0, agree.order, slabs.order) in
+    let top : c.order-order.result ≤ WIDE_ORDER = omega (arith, c.order-order.ensures, agree.order, slabs.order) in
+    let k : x.k ≤ WIDE_ORDER = omega (arith, c.requires.block.aligned.0, agree.order, slabs.order) in
     let size : 1 * 2 ^ c.order-order.result % 4294967296 ≡ 2 ^ x.self.buddy.now.top =
     size_is c.order-order.result top ∙ ap (λ n. 2 ^ n) c.order-order.ensures in
     let within = c.loop-frame-test.true in

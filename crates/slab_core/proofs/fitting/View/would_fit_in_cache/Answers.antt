@@ -2,7 +2,7 @@ use Rattle.std.proofs.Common.{◌≡◌, ℕ, ◌*◌, ◌/◌, ◌%◌, ◌^◌
 use Rattle.std.proofs.Math.Nat.{div-lt_iff_lt-mul}
 use Rattle.std.proofs.lemmas.Nat.{pow_pos}
 use Rattle.std.proofs.lemmas.Bool.{false≢true}
-use Rattle.model_core.specs.declared.limits.TheConstants.{MAX_FRAMES}
+use Rattle.model_core.specs.declared.limits.TheConstants.{WIDE_FRAMES}
 use Rattle.model_core.specs.Blocks.{around}
 use Rattle.klist_core.specs.Places.{IsPlacedByKey}
 use Rattle.slab_tables.specs.Content.{head_of}
@@ -17,7 +17,7 @@ use Rattle.slab_core.proofs.fitting.View.would_fit_in_cache.Goals.{In-Some, then
 here : (c : In-Some) → IsNextSlab c.args.self.space.now c.args.self.buddy.now c.args.self.tables.now c.args.self.tenant c.args.c c.args.k c.in-Some.slab c.in-Some.machine_frame
 here c = next_is c.loop-next.invariant.searched c.in-Some.is
 
-small : (c : In-Some) → c.in-Some.slab < MAX_FRAMES
+small : (c : In-Some) → c.in-Some.slab < WIDE_FRAMES
 small c = slab_small (here c) c.requires.parts.slabs c.requires.parts.agree c.requires.steady c.requires.cache
 
 number_within : (c : In-Some) → c.in-Some.slab / 2 ^ c.args.k < 64 * length c.loop-next.refused
@@ -38,7 +38,7 @@ has_block-requires c = number_within (goal.at.has_block-requires c).In-Some
 pub is_unused_block-requires-clause-first : goal.is_unused_block-requires-clause-first
 is_unused_block-requires-clause-first c =
     let at = (goal.at.is_unused_block-requires-clause-first c).In-Some in
-    subst (λ n. n < MAX_FRAMES) (sym (first_is at)) (first_small c.in-Some.slab c.args.k (small at))
+    subst (λ n. n < WIDE_FRAMES) (sym (first_is at)) (first_small c.in-Some.slab c.args.k (small at))
 
 pub is_unused_block-requires-clause-block : goal.is_unused_block-requires-clause-block
 is_unused_block-requires-clause-block c =
