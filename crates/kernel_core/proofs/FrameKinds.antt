@@ -9,7 +9,7 @@ use Rattle.machine_changes.proofs.Lookups.{some_same, some_none}
 use Rattle.kernel_core.specs.Frames.{AreEndedBefore, IsInSlab}
 use Rattle.kernel_core.specs.declared.frames.FrameKind.{FrameKind}
 use Rattle.std.proofs.Math.Pow.{pow_mono}
-use Rattle.model_core.specs.declared.limits.TheConstants.{MAX_ORDER}
+use Rattle.model_core.specs.declared.limits.TheConstants.{WIDE_ORDER}
 use Rattle.model_core.specs.Machine.{Machine, order_in, taken_in}
 use Rattle.model_core.specs.Slabs.{slab_of}
 use Rattle.model_core.specs.Layouts.{Layout}
@@ -69,12 +69,12 @@ slot_begins top held taken sound slot f k is less = go (cases_lt (slot * 2 ^ top
         let same : slot * 2 ^ top / 2 ^ top ≡ f / 2 ^ top = frame_slot top (slot * 2 ^ top) (block f k) (sound.placed f k is).0 (omega (arith, less), over) in
         absurd (omega (arith, before, same, mul-div_cancel slot some))
 
--- 1 shifted left by an order of at most MAX_ORDER is 2 ^ order, which is between 1 and 256
-pub small_shift : (order : ℕ) → order ≤ MAX_ORDER → (1 * 2 ^ order % 18446744073709551616 ≡ 2 ^ order) × (0 < 2 ^ order) × (2 ^ order ≤ 256)
+-- 1 shifted left by an order of at most WIDE_ORDER is 2 ^ order, which is between 1 and 1,024
+pub small_shift : (order : ℕ) → order ≤ WIDE_ORDER → (1 * 2 ^ order % 18446744073709551616 ≡ 2 ^ order) × (0 < 2 ^ order) × (2 ^ order ≤ 1024)
 small_shift order few = (one_shl order 64 (omega arith), pow_pos order, pow_mono few)
 
--- if a slot's number is below 65536 and the order is at most MAX_ORDER, the number of the slot's first frame fits in 32 bits
-pub slot_first : (slot order : ℕ) → slot < 65536 → order ≤ MAX_ORDER → slot * 2 ^ order % 4294967296 ≡ slot * 2 ^ order
+-- if a slot's number is below 65536 and the order is at most WIDE_ORDER, the number of the slot's first frame fits in 32 bits
+pub slot_first : (slot order : ℕ) → slot < 65536 → order ≤ WIDE_ORDER → slot * 2 ^ order % 4294967296 ≡ slot * 2 ^ order
 slot_first slot order small few = shl_whole slot 16 order 32 small (omega (arith, few))
 
 -- the frame with index `at` in a slot lies in that slot and has that index

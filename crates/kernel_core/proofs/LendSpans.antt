@@ -3,7 +3,7 @@ use Rattle.std.proofs.Common.{◌≡◌, inl, inr, ℕ, ◌*◌, ◌/◌, ◌%�
 use Rattle.std.specs.Prelude.{is_some}
 use Rattle.std.proofs.lemmas.Bool.{false≢true, lt-ltb, le-ltb}
 use Rattle.std.proofs.Math.Nat.{pow-le-pow_right, mod-eq_of_lt}
-use Rattle.model_core.specs.declared.limits.TheConstants.{MAX_ORDER}
+use Rattle.model_core.specs.declared.limits.TheConstants.{WIDE_ORDER}
 use Rattle.model_core.specs.Blocks.{block, HasFrame, IsTaken}
 use Rattle.model_core.specs.Machine.{Machine, order_in}
 use Rattle.space_core.specs.Content as spaces
@@ -41,11 +41,11 @@ page_from : (v : Bool) (o : Option ℕ) (k : ℕ) → (if v then None else o) �
 page_from true o k is = absurd (some_none (sym is))
 page_from false o k is = record { page = refl; taken = is }
 
--- if an order is at most 8, the size in bytes of a page block of this order fits in 32 bits
-size_is : (order : ℕ) → order ≤ MAX_ORDER → 4096 * 2 ^ order % 4294967296 ≡ 4096 * 2 ^ order
+-- if an order is at most WIDE_ORDER, the size in bytes of a page block of this order fits in 32 bits
+size_is : (order : ℕ) → order ≤ WIDE_ORDER → 4096 * 2 ^ order % 4294967296 ≡ 4096 * 2 ^ order
 size_is order few =
     let two : 0 < 2 = omega arith in
-    let frames : 2 ^ order ≤ 256 = pow-le-pow_right two few in
+    let frames : 2 ^ order ≤ 1024 = pow-le-pow_right two few in
     mod-eq_of_lt (omega (arith, frames))
 
 module _ (r : spaces.Content) (b : buddies.Content) (s : tables.Content) (t place : ℕ) (asked : IsRequested r b s t) where
@@ -84,7 +84,7 @@ module _ (r : spaces.Content) (b : buddies.Content) (s : tables.Content) (t plac
     slab_no_page slab m shown there =
         false≢true (sym ((block_decides r b s t place 1 first order st (omega arith) taken here).0 (page_of m shown there)).0 ∙ slab)
 
-    pub few : order ≤ MAX_ORDER
+    pub few : order ≤ WIDE_ORDER
     few =
         let below = (st.sound.placed first order taken).0.0 in
         let same = asked.together.agree.order in
@@ -146,7 +146,7 @@ module _ (r : spaces.Content) (b : buddies.Content) (s : tables.Content) (t firs
       let one : 2 ^ 0 ≤ 2 ^ order = pow-le-pow_right two {i = 0} {j = order} (omega arith) in
       (omega (arith, same_frame), omega (arith, same_frame, one))
 
-  pub page_few : order ≤ MAX_ORDER
+  pub page_few : order ≤ WIDE_ORDER
   page_few = few r b s t (4096 * first) asked first order page.taken here
 
   pub page_held : (o : Option ℕ) → spaces.superblock_at r.slots t (first / 2 ^ s.top) ≡ o → (m : ℕ) × (o ≡ Some m)

@@ -191,7 +191,7 @@ module _ (a x b y : Option ℕ) (placed : IsPlaced a x) (placed' : IsPlaced b y)
 
   pub holders_laws : buddies.BuddyLaws (holders a x b y)
   holders_laws = record {
-    sizes = record { small = omega arith; few = omega arith; tenants = omega arith; slots = slots; taken = frames };
+    sizes = record { small = omega arith; few = omega arith; frames = omega arith; tenants = omega arith; slots = slots; taken = frames };
     sound = sound;
     apart = apart;
   }
@@ -223,9 +223,9 @@ opened_is = refl
 pub is_opened : IsBooted opened 2 2
 is_opened = record {
   kernel = kernel_of opened_space (holders None None None None) no_slabs (record {
-    space = laws_of (empty_space-IsSpace (4096 * 2 ^ 3) 2 2 (omega arith) (omega arith) (omega arith) (omega arith));
+    space = laws_of (empty_space-IsSpace (4096 * 2 ^ 3) 2 2 (omega arith) (omega arith) (omega arith) (omega arith) (omega arith));
     buddy = holders_laws None None None None (λ k is. absurd (cc)) (λ k is. absurd (cc)) (λ m is is'. cc);
-    slabs = slabs_opening 3 2 2 (omega arith) (omega arith) (omega arith);
+    slabs = slabs_opening 3 2 2 (omega arith) (omega arith) (omega arith) (omega arith);
     agree = (opening_shows 3 2 2).agree;
   });
   shows = subst (λ (x : KernelContent). Shows x (opening_world 2 2)) (sym opened_is) (opening_shown 2 2 (omega arith) (omega arith));

@@ -1,5 +1,6 @@
 -- The parts that a kernel has after boot agree, and they show the world after boot.
-use Rattle.std.proofs.Common.{◌≡◌, ℕ, ◌<◌, ◌≤◌, ◌&&◌, nat_le, true, refl, sym, ◌∙◌, subst, arith}
+use Rattle.std.proofs.Common.{◌≡◌, ℕ, ◌*◌, ◌^◌, ◌<◌, ◌≤◌, ◌&&◌, nat_le, true, refl, sym, ◌∙◌, subst, arith}
+use Rattle.std.proofs.Math.Nat.{pow-le-pow_right, mul-le-mul}
 use Rattle.std.proofs.lemmas.List.{length-replicate}
 use Rattle.buddy_core.specs.Content as buddies
 use Rattle.machine_changes.specs.Shows.{Agree}
@@ -9,7 +10,7 @@ use Rattle.std.proofs.lemmas.Bool.{and_parts, leb-true}
 use Rattle.std.proofs.lemmas.Option.{slice_get_within, same_Some}
 use Rattle.std.specs.Prelude.{replicate}
 use Rattle.model_core.specs.Machine.{empty_machine}
-use Rattle.model_core.specs.declared.limits.TheConstants.{MIN_ORDER, MAX_ORDER, MAX_SUPERBLOCKS, MAX_TENANTS}
+use Rattle.model_core.specs.declared.limits.TheConstants.{MIN_ORDER, MAX_ORDER, MAX_SUPERBLOCKS, MAX_TENANTS, WIDE_FRAMES}
 use Rattle.world_core.specs.World.{opening_world}
 use Rattle.world_core.proofs.MachineLists.{slice_get-replicate}
 use Rattle.kernel_core.specs.Shows.{ShowsMachine, Shows}
@@ -46,6 +47,13 @@ bootable c is =
       leb-true c.superblocks MAX_SUPERBLOCKS (and_parts (nat_le 1 c.superblocks) (nat_le c.superblocks MAX_SUPERBLOCKS) second.0).1,
       leb-true c.tenants MAX_TENANTS (and_parts (nat_le 1 c.tenants) (nat_le c.tenants MAX_TENANTS) second.1).1,
     )
+
+-- a bootable machine has at most WIDE_FRAMES frames
+pub few_frames : (c : Config) → is_bootable c ≡ true → c.superblocks * 2 ^ c.order ≤ WIDE_FRAMES
+few_frames c is =
+    let sizes = bootable c is in
+    let powers : 2 ^ c.order ≤ 2 ^ MAX_ORDER = pow-le-pow_right {n = 2} (omega arith) sizes.0 in
+    omega (arith, mul-le-mul {n₁ = c.superblocks} {m₁ = 2 ^ c.order} sizes.1 powers)
 
 pub opening_world_shown : (order superblocks tenants : ℕ) → PartsAgree (opening_content order superblocks tenants)
     → Shows (opening_content order superblocks tenants) (opening_world superblocks tenants)

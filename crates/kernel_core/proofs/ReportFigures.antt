@@ -2,7 +2,7 @@
 use Rattle.std.proofs.Common.{◌≡◌, ◌≢◌, ℕ, ◌+◌, ◌*◌, ◌%◌, ◌^◌, ◌<◌, ◌≤◌, cond, List, [], ◌∷◌, ◌++◌, Option, Some, None, sym, ap, ◌∙◌, add-one, arith, length, ap₂}
 use Rattle.std.specs.Prelude.{IfSome}
 use Rattle.std.proofs.lemmas.Bool.{eq-eqb, ne_eqb}
-use Rattle.model_core.specs.declared.limits.TheConstants.{MAX_FRAMES}
+use Rattle.model_core.specs.declared.limits.TheConstants.{WIDE_FRAMES}
 use Rattle.model_core.specs.declared.report.OrderRow.{OrderRow}
 use Rattle.model_core.specs.Machine.{Machine}
 use Rattle.model_core.specs.Reports.{order_row, order_rows, greatest, frames_held, frames_taken, frames_free, greatest_free, free_count, split_share, rows_of_caches}
@@ -39,10 +39,10 @@ greatest_none count k o e none =
     e ∙ sym (ap (greatest count) (add-one k) ∙ ap (λ v. cond v (greatest count k) (Some k)) (eq-eqb (count k) 0 none))
 
 -- Suppose that `live` is the number of frames in taken blocks of orders below k. Adding the frames in taken blocks of order k
--- gives the number for orders below k + 1. It is at most MAX_FRAMES, so there is no overflow.
+-- gives the number for orders below k + 1. It is at most WIDE_FRAMES, so there is no overflow.
 pub live_more : (b : buddies.Content) (t k live taken : ℕ) → AreWithin b t → k < b.top + 1 → live ≡ frames_below (buddies.holding_of t b) k
     → taken ≡ buddies.taken_block_count k (buddies.holding_of t b)
-    → (live + taken * 2 ^ k % 4294967296 ≡ frames_below (buddies.holding_of t b) (k + 1)) × (frames_below (buddies.holding_of t b) (k + 1) ≤ MAX_FRAMES)
+    → (live + taken * 2 ^ k % 4294967296 ≡ frames_below (buddies.holding_of t b) (k + 1)) × (frames_below (buddies.holding_of t b) (k + 1) ≤ WIDE_FRAMES)
 live_more b t k live taken w less e e' =
     let h = buddies.holding_of t b in
     let more : frames_below h (k + 1) ≡ frames_below h k + buddies.taken_block_count k h * 2 ^ k = frames_more (λ j. buddies.taken_block_count j h) k in

@@ -1,6 +1,7 @@
 //! The kinds of a tenant's frames.
 
 ghost use Rattle.std.specs.Prelude.{◌≡◌, ℕ, ◌<◌, ◌≤◌, ◌+◌, ◌*◌, ◌/◌, ◌%◌, ◌^◌, false, is_some, MatchOption, IfSome, Some, length, slice_get};
+ghost use Rattle.model_core.specs.declared.limits.TheConstants.{WIDE_ORDER};
 ghost use Rattle.model_core.specs.Blocks.{block, HasFrame};
 ghost use Rattle.model_core.specs.Machine.{Machine};
 ghost use Rattle.buddy_core.specs.Content.{holding_of, taken_of};
@@ -107,7 +108,7 @@ impl Kernel {
         requires held { superblock_at self.now t (first / 2 ^ self.now.order) ≡ Some superblock }
         requires taken { order ≡ taken_of (holding_of t self.now.buddy) first }
         ensures some { 0 < result.1 }
-        ensures few { result.1 ≤ 256 }
+        ensures few { result.1 ≤ 2 ^ WIDE_ORDER }
         ensures kinds { (m : Machine) (frame : ℕ) → ShowsMachine self.now t m → AreEndedBefore (taken_of (holding_of t self.now.buddy)) first
             → first ≤ frame → frame < first + result.1 → IsFrame self.now.order m frame result.0 }
         ensures next { AreEndedBefore (taken_of (holding_of t self.now.buddy)) first

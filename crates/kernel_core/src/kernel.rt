@@ -1,7 +1,7 @@
 //! The kernel, and the functions that run events, requests and the administrator's commands.
 
-ghost use Rattle.std.specs.Prelude.{◌≡◌, ◌↔◌, ℕ, ◌<◌, ◌≤◌, IfOk, IfSome, true, false};
-ghost use Rattle.model_core.specs.declared.limits.TheConstants.{MAX_ORDER, MAX_SUPERBLOCKS, MAX_TENANTS};
+ghost use Rattle.std.specs.Prelude.{◌≡◌, ◌↔◌, ℕ, ◌*◌, ◌^◌, ◌<◌, ◌≤◌, IfOk, IfSome, true, false};
+ghost use Rattle.model_core.specs.declared.limits.TheConstants.{MAX_ORDER, MAX_SUPERBLOCKS, MAX_TENANTS, WIDE_FRAMES};
 ghost use Rattle.words_core.specs.declared.event.Command.TheVariants as Command;
 ghost use Rattle.world_core.specs.Limits.{cache_limit};
 ghost use Rattle.world_core.specs.World.{World, opening_world, world_step};
@@ -92,6 +92,7 @@ impl Kernel {
         requires order { order ≤ MAX_ORDER }
         requires superblocks { superblocks ≤ MAX_SUPERBLOCKS }
         requires tenants { tenants ≤ MAX_TENANTS }
+        requires frames { superblocks * 2 ^ order ≤ WIDE_FRAMES }
         ensures { IfOk result (λ k. k ≡ opening_content order superblocks tenants) }
     {
         let space = Space::new(alloc, order, superblocks, tenants)?;

@@ -1,7 +1,7 @@
 //! A tenant's commands on page blocks and bytes.
 
 ghost use Rattle.std.specs.Prelude.{◌≡◌, ◌↔◌, true, ◌*◌, ◌/◌, ◌^◌, ◌<◌, ◌≤◌, Some, length, IfOk, MatchOption};
-ghost use Rattle.model_core.specs.declared.limits.TheConstants.{MAX_ORDER};
+ghost use Rattle.model_core.specs.declared.limits.TheConstants.{WIDE_ORDER};
 ghost use Rattle.space_core.specs.Windows.{home_of, window_of, with_window};
 ghost use Rattle.machine_changes.specs.Pages.{IsInReach};
 ghost use Rattle.machine_changes.specs.Slots.{HoldTogether};
@@ -164,7 +164,7 @@ impl Kernel {
 /// Borrows a range of tenant `t` that is in this superblock of `2^order` frames. Only the contract uses `t`.
 #[inline(always)]
 fn lent(space: &Space, superblock: u16, order: u32, t: u8, place: u32, len: u32) -> &[u8]
-    requires order { order ≤ MAX_ORDER }
+    requires order { order ≤ WIDE_ORDER }
     requires unit { space.now.unit ≡ FRAME_BYTES * 2 ^ order }
     requires home { home_of space.now t place len ≡ Some superblock }
     ensures value { window_of space.now t place len ≡ Some result.now }

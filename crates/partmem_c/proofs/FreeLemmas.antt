@@ -2,8 +2,6 @@
 use Rattle.std.proofs.Common.{◌≡◌, ℕ, ◌^◌, ◌<◌, ◌≤◌, Bool, true, false, if◌then◌else◌, Option, Some, None, get_or, slice_get, refl, ap, ◌∙◌, arith}
 use Rattle.std.proofs.lemmas.List.{get_or_past}
 use Rattle.std.proofs.lemmas.Option.{slice_get-get_or}
-use Rattle.std.proofs.Math.Pow.{pow_mono}
-use Rattle.std.proofs.lemmas.Nat.{mul-le}
 use Rattle.model_core.specs.Machine.{Machine, empty_machine, order_in}
 use Rattle.model_core.specs.Operations.{free_step, free_at}
 use Rattle.world_core.specs.Limits.{cache_limit}
@@ -31,8 +29,7 @@ none_taken : (k : KernelContent) (t frame : ℕ) → IsKernel k → t < k.tenant
 none_taken k t frame is here large =
     let sizes = is.together.buddy.sizes in
     let listed = sizes.taken t (omega (arith, here, is.agree.holdings)) in
-    let few = mul-le k.buddy.superblocks (2 ^ k.buddy.top) 256 256 sizes.few (pow_mono sizes.small) in
-    get_or_past (holding_of t k.buddy).taken frame None (omega (arith, listed, few, large))
+    get_or_past (holding_of t k.buddy).taken frame None (omega (arith, listed, sizes.frames, large))
 
 no_block : (k : KernelContent) (t frame : ℕ) (m : Machine) → IsKernel k → t < k.tenants → 2 ^ 20 ≤ frame → ShowsMachine k t m → order_in m.blocks frame ≡ None
 no_block k t frame m is here large shown =

@@ -7,4 +7,5 @@ returns-in-Some-clause-order c =
     let same = ap (λ b. length b.tenants) c.buddy-buddy.ensures in
     let here : c.args.t < length c.buddy-buddy.result.now.tenants = omega (arith, c.requires, same, c.parts_agree.ensures.holdings) in
     let placed = (laws.sound c.args.t here).placed c.in-Some.first c.in-Some.order c.in-Some.ensures.0 in
-    omega (arith, c.from.ensures, placed.0.0, laws.sizes.small)
+    let parts = c.parts_agree.ensures in
+    omega (arith, c.from.ensures, placed.0.0, parts.order, parts.top, ap (λ b. b.top) c.buddy-buddy.ensures)

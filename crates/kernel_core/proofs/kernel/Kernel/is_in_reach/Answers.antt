@@ -1,6 +1,6 @@
 use Rattle.std.proofs.Common.{◌≡◌, ◌⊎◌, ◌*◌, ◌^◌, ◌<◌, ◌≤◌, ◌%◌, inl, inr, sym, ap, ◌∙◌, subst, ◌/◌, arith}
 use Rattle.std.proofs.lemmas.Bool.{false≢true, le-leb, leb-true}
-use Rattle.model_core.specs.declared.limits.TheConstants.{MAX_FRAMES, MAX_ORDER}
+use Rattle.model_core.specs.declared.limits.TheConstants.{WIDE_FRAMES, WIDE_ORDER}
 use Rattle.machine_changes.specs.Steady.{IsSteady}
 use Rattle.slab_core.proofs.ObjectsInRange.{no_block, no_slab}
 use Rattle.machine_changes.proofs.PageReachByBlock.{block_decides, no_block_decides}
@@ -28,14 +28,14 @@ only_second (inr q) first = q
 lent : (c : After-block_in) → IsSteady c.self.inside.space c.self.inside.buddy c.self.inside.slabs c.args.t
 lent c = steady _ _ _ c.args.t (opened _ _ _ _ c.self.view_is c.laws.ensures.together) (known _ _ _ _ c.args.t c.self.view_is c.requires.tenant)
 
--- The taken block has an order of at most 8, so its number of frames is at most 256 and does not overflow. Its first frame is
--- below 65536.
-small : (c : After-machine_frame_in-machine_frame) → (1 * 2 ^ c.in-Some.order % 18446744073709551616 ≡ 2 ^ c.in-Some.order) × (0 < 2 ^ c.in-Some.order) × (2 ^ c.in-Some.order ≤ 256)
-    × (c.in-Some.order ≤ MAX_ORDER) × (c.in-Some.first < MAX_FRAMES)
+-- The taken block has an order of at most WIDE_ORDER, so its number of frames does not overflow. Its first frame is below
+-- WIDE_FRAMES.
+small : (c : After-machine_frame_in-machine_frame) → (1 * 2 ^ c.in-Some.order % 18446744073709551616 ≡ 2 ^ c.in-Some.order) × (0 < 2 ^ c.in-Some.order) × (2 ^ c.in-Some.order ≤ 1024)
+    × (c.in-Some.order ≤ WIDE_ORDER) × (c.in-Some.first < WIDE_FRAMES)
 small c =
     let together = opened _ _ _ _ c.self.view_is c.laws.ensures.together in
     let st = steady _ _ _ c.args.t together (known _ _ _ _ c.args.t c.self.view_is c.requires.tenant) in
-    let few : c.in-Some.order ≤ MAX_ORDER = omega (arith, (st.sound.placed c.in-Some.first c.in-Some.order c.in-Some.ensures.0).0.0, together.agree.order, together.buddy.sizes.small) in
+    let few : c.in-Some.order ≤ WIDE_ORDER = omega (arith, (st.sound.placed c.in-Some.first c.in-Some.order c.in-Some.ensures.0).0.0, together.agree.order, together.buddy.sizes.small) in
     let shift = small_shift c.in-Some.order few in
     (shift.0, shift.1, shift.2, few, st.few c.in-Some.first c.in-Some.order c.in-Some.ensures.0)
 
