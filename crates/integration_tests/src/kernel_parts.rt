@@ -170,3 +170,40 @@ fn slabs_and_objects_are_found(rt: HostRuntime) -> Result<(), Fail> {
     }
     Ok(())
 }
+
+/// The sizes of a machine, and whether a wide machine may have them.
+const SIZES: [(u32, u32, u32, bool); 10] = [
+    (3, 1, 1, true),
+    (8, 4096, 255, true),
+    (10, 1024, 255, true),
+    (10, 1025, 1, false),
+    (9, 2049, 1, false),
+    (3, 4097, 1, false),
+    (2, 1, 1, false),
+    (11, 1, 1, false),
+    (3, 0, 1, false),
+    (3, 1, 256, false),
+];
+
+#[test]
+fn wide_machines_have_at_most_4_gib(rt: HostRuntime) -> Result<(), Fail> {
+    for (order, superblocks, tenants, is_wide) in SIZES {
+        let config = Config {
+            order,
+            superblocks,
+            tenants,
+        };
+        assert!(rt; config.is_wide() == is_wide, "{config:?}");
+    }
+    Ok(())
+}
+
+#[test]
+fn blocks_of_order_10_are_found(rt: HostRuntime) -> Result<(), Fail> {
+    let mut buddy = Buddy::new(rt.alloc(), 10, 2, 1)?;
+    buddy.add_slot(0, 1, 0);
+    assert!(rt; buddy.reserve(0, 10) == Some(1024));
+    assert!(rt; buddy.release(0, 1024) == Some(10));
+    assert!(rt; buddy.reserve(0, 0) == Some(1024));
+    Ok(())
+}
