@@ -3,10 +3,12 @@ use Rattle.std.specs.Prelude.{ℕ, ◌+◌, ◌-◌, ◌/◌, ◌%◌, nat_lt, i
 use Rattle.model_core.specs.Blocks.{Block}
 use Rattle.model_core.specs.declared.owner.Owner.{Owner}
 use Rattle.promise_core.specs.declared.promise.Promise.{Promise}
+use Rattle.reply_judge.specs.declared.bound.Bound.{Bound}
 use Rattle.reply_judge.specs.declared.faults.BlockFault.{BlockFault}
 use Rattle.reply_judge.specs.declared.faults.ObjectFault.{ObjectFault}
 use Rattle.reply_judge.specs.declared.vacancy.Vacancy.{Vacancy}
 use Rattle.reply_judge.specs.declared.wrong_bytes.WrongByte.{WrongByte}
+use Rattle.trace_check.specs.declared.figure.Figure.{Figure}
 use Rattle.trace_check.specs.declared.kinds.AnswerKind.{AnswerKind}
 use Rattle.trace_check.specs.declared.reason.Reason.{Reason}
 use Rattle.trace_check.specs.declared.taken.TakenFrame.{TakenFrame}
@@ -97,11 +99,43 @@ object_text place (ObjectFault.Page page) = slab_over_text page
 object_text place (ObjectFault.Unfit slab fault) = unfit_text slab fault
 object_text place (ObjectFault.Over other) = codes "the object overlaps the one at " ++ decimal other
 object_text place ObjectFault.Full = codes "all objects of the slab are live"
+object_text place ObjectFault.OffGrid = codes "no object of the slab can begin at place " ++ decimal place
 
 -- the words for what is left for a request
 abbrev pub left_text : Vacancy → List ℕ
 left_text (Vacancy.Block b) = codes "the block of order " ++ (decimal b.order ++ (codes " at frame " ++ (decimal b.first ++ codes " is vacant")))
 left_text (Vacancy.Slab place) = codes "the slab of the object at " ++ (decimal place ++ codes " is not full")
+
+-- the words for a slot that cannot be busy
+abbrev pub idle_text : ℕ → List ℕ
+idle_text slot = codes "no frame of slot " ++ (decimal slot ++ codes " is taken, and no slab can be empty")
+
+-- the name of a number in a reply
+abbrev pub name_of_figure : Figure → List ℕ
+name_of_figure Figure.Cache = codes "number of the cache"
+name_of_figure Figure.Chunk = codes "chunk"
+name_of_figure Figure.Order = codes "order"
+name_of_figure Figure.Objects = codes "number of objects"
+name_of_figure Figure.Colours = codes "number of colours"
+name_of_figure Figure.Frames = codes "number of frames"
+name_of_figure Figure.Tenant = codes "tenant"
+name_of_figure Figure.Slot = codes "slot"
+name_of_figure Figure.Superblocks = codes "number of superblocks"
+
+-- the words for a number that has to be within a bound
+abbrev pub figure_text : Figure → Bound → List ℕ
+figure_text figure (Bound.Exactly n) = codes "the " ++ (name_of_figure figure ++ (codes " has to be " ++ decimal n))
+figure_text figure (Bound.AtLeast n) = codes "the " ++ (name_of_figure figure ++ (codes " has to be at least " ++ decimal n))
+figure_text figure (Bound.AtMost n) = codes "the " ++ (name_of_figure figure ++ (codes " has to be at most " ++ decimal n))
+figure_text figure (Bound.MultipleOf n) = codes "the " ++ (name_of_figure figure ++ (codes " has to be a multiple of " ++ decimal n))
+
+-- the words for a cache that the tenant has already
+abbrev pub existing_text : ℕ → List ℕ
+existing_text number = codes "there is a cache " ++ (decimal number ++ codes " already")
+
+-- the words for a slot that the tenant holds already
+abbrev pub held_text : ℕ → List ℕ
+held_text slot = codes "slot " ++ (decimal slot ++ codes " is held already")
 
 -- the form of an answer of this kind, as the help of partmem has it
 abbrev pub form_of_kind : AnswerKind → List ℕ
@@ -147,3 +181,8 @@ reason_text promise (Some (Reason.Wrong wrong)) = wrong_text wrong
 reason_text promise (Some (Reason.Count count)) = count_text count
 reason_text promise (Some (Reason.Object place fault)) = object_text place fault
 reason_text promise (Some (Reason.Left vacancy)) = left_text vacancy
+reason_text promise (Some (Reason.Idle slot)) = idle_text slot
+reason_text promise (Some (Reason.Figure figure bound)) = figure_text figure bound
+reason_text promise (Some (Reason.Held slot)) = held_text slot
+reason_text promise (Some (Reason.Existing number)) = existing_text number
+reason_text promise (Some Reason.NotTakeBack) = codes "only a takeback may be refused 15 SlotBusy"

@@ -2,17 +2,17 @@
 
 ghost use Rattle.std.specs.Prelude.{◌≡◌, ◌<◌, OnOk, Some};
 ghost use Rattle.std.specs.Io.KnownBytes.{Appends};
-ghost use Rattle.partcheck.specs.Reasons.{admin_text, count_text, due_bytes_text, due_text, form_of_kind, freed_text};
-ghost use Rattle.partcheck.specs.Reasons.{hex_digit, hex_text, left_text, tenant_text};
-ghost use Rattle.partcheck.specs.Reasons.{missing_text, object_text, owned_text, reason_text, slab_over_text, taken_text};
+ghost use Rattle.partcheck.specs.Reasons.{admin_text, count_text, due_bytes_text, due_text, existing_text, figure_text, form_of_kind, freed_text};
+ghost use Rattle.partcheck.specs.Reasons.{held_text, hex_digit, hex_text, idle_text, left_text, tenant_text};
+ghost use Rattle.partcheck.specs.Reasons.{missing_text, name_of_figure, object_text, owned_text, reason_text, slab_over_text, taken_text};
 ghost use Rattle.partcheck.specs.Reasons.{unfit_text, unowned_text, words_of_promise, wrong_text};
 
 use known_holdings::FrameBlock;
 use model_core::owner::Owner;
 use promise_core::promise::Promise;
-use reply_judge::{BlockFault, ObjectFault, Vacancy, WrongByte};
+use reply_judge::{BlockFault, Bound, ObjectFault, Vacancy, WrongByte};
 use std::io::{self, Write};
-use trace_check::{AnswerKind, Reason, TakenFrame};
+use trace_check::{AnswerKind, Figure, Reason, TakenFrame};
 use words_core::Refusal;
 
 /// Writes why a promise is broken, or what the promise requires if no reason was worked out.
@@ -38,6 +38,11 @@ pub(crate) fn write_reason<W: Write>(
         Some(Reason::Count(count)) => write_count(out, *count),
         Some(Reason::Object { place, fault }) => write_object(out, *place, fault),
         Some(Reason::Left(vacancy)) => write_left(out, vacancy),
+        Some(Reason::Idle(slot)) => write_idle(out, *slot),
+        Some(Reason::NotTakeBack) => out.write_all(b"only a takeback may be refused 15 SlotBusy"),
+        Some(Reason::Figure { figure, bound }) => write_figure(out, *figure, *bound),
+        Some(Reason::Held(slot)) => write_held(out, *slot),
+        Some(Reason::Existing(number)) => write_existing(out, *number),
         None => out.write_all(words_of(promise).as_bytes()),
     }
 }
@@ -228,6 +233,7 @@ fn write_object<W: Write>(out: &mut W, place: u32, fault: &ObjectFault) -> io::R
         ObjectFault::Unfit { slab, fault } => write_unfit(out, slab, *fault),
         ObjectFault::Over(other) => write!(out, "the object overlaps the one at {other}"),
         ObjectFault::Full => out.write_all(b"all objects of the slab are live"),
+        ObjectFault::OffGrid => write!(out, "no object of the slab can begin at place {place}"),
     }
 }
 
@@ -253,6 +259,60 @@ fn write_left<W: Write>(out: &mut W, vacancy: &Vacancy) -> io::Result<()>
         }
         Vacancy::Slab(place) => write!(out, "the slab of the object at {place} is not full"),
     }
+}
+
+/// Writes that a slot cannot be busy.
+fn write_idle<W: Write>(out: &mut W, slot: u16) -> io::Result<()>
+    ensures { OnOk result (Appends (W.contents out.old) (W.contents out.new) (idle_text slot)) }
+{
+    write!(
+        out,
+        "no frame of slot {slot} is taken, and no slab can be empty"
+    )
+}
+
+/// Writes within which bound a number has to be.
+fn write_figure<W: Write>(out: &mut W, figure: Figure, bound: Bound) -> io::Result<()>
+    ensures { OnOk result (Appends (W.contents out.old) (W.contents out.new) (figure_text figure bound)) }
+{
+    let name = name_of_figure(figure);
+    match bound {
+        Bound::Exactly(number) => write!(out, "the {name} has to be {number}"),
+        Bound::AtLeast(number) => write!(out, "the {name} has to be at least {number}"),
+        Bound::AtMost(number) => write!(out, "the {name} has to be at most {number}"),
+        Bound::MultipleOf(number) => write!(out, "the {name} has to be a multiple of {number}"),
+    }
+}
+
+/// Returns the name of a number in a reply.
+fn name_of_figure(figure: Figure) -> &'static str
+    ensures { result.now ≡ name_of_figure figure }
+{
+    match figure {
+        Figure::Cache => "number of the cache",
+        Figure::Chunk => "chunk",
+        Figure::Order => "order",
+        Figure::Objects => "number of objects",
+        Figure::Colours => "number of colours",
+        Figure::Frames => "number of frames",
+        Figure::Tenant => "tenant",
+        Figure::Slot => "slot",
+        Figure::Superblocks => "number of superblocks",
+    }
+}
+
+/// Writes that the tenant has a cache with this number already.
+fn write_existing<W: Write>(out: &mut W, number: u8) -> io::Result<()>
+    ensures { OnOk result (Appends (W.contents out.old) (W.contents out.new) (existing_text number)) }
+{
+    write!(out, "there is a cache {number} already")
+}
+
+/// Writes that the tenant holds this slot already.
+fn write_held<W: Write>(out: &mut W, slot: u16) -> io::Result<()>
+    ensures { OnOk result (Appends (W.contents out.old) (W.contents out.new) (held_text slot)) }
+{
+    write!(out, "slot {slot} is held already")
 }
 
 /// Returns the words for what a promise requires.

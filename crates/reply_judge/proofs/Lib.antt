@@ -13,4 +13,5 @@ pub mod WrongBytesInTurn
 pub mod VacantBlocksInTurn
 pub mod Opening
 pub mod RowSums
+pub mod EmptiedFrames
 pub mod Lists

@@ -1,9 +1,9 @@
 -- What keeps a block from standing, if it shares no frame with a page block, and what keeps an object from being taken.
 use Rattle.std.specs.Prelude.{ℕ, ◌/◌, ◌%◌, ◌^◌, ◌==◌, not, if◌then◌else◌, List, [], ◌∷◌, find, length, nat_le, Option, Some, None, option_map}
-use Rattle.std.specs.Option.{option_map_or}
+use Rattle.std.specs.Option.{option_map_or, option_or}
 use Rattle.model_core.specs.Blocks.{Block}
 use Rattle.model_core.specs.Operations.{overlaps}
-use Rattle.promise_core.specs.Holdings.{KnownCache, Holdings, are_apart, has_slot, known_cache, live_beside, slab_around}
+use Rattle.promise_core.specs.Holdings.{KnownCache, Holdings, are_apart, can_be_taken, has_slot, known_cache, live_beside, slab_around}
 use Rattle.reply_judge.specs.declared.faults.BlockFault.{BlockFault}
 use Rattle.reply_judge.specs.declared.faults.ObjectFault.{ObjectFault}
 
@@ -35,6 +35,10 @@ unfoldable pub take_fault : ℕ → Holdings → KnownCache → ℕ → Option O
 take_fault order h c place = if not (place % c.align == 0) then Some ObjectFault.Misaligned
     else (if length (live_beside c place) == 0 then slab_fault order h (slab_around c place) else beside_fault c place (live_beside c place))
 
+-- an object of the cache may not be taken at the place; this is a fault of the grid if nothing else is
+abbrev pub grid_fault : ℕ → Holdings → KnownCache → ℕ → Option ObjectFault
+grid_fault order h c place = if can_be_taken order h c place then None else Some ObjectFault.OffGrid
+
 -- what keeps an object of the cache with this number from being taken at the place
 abbrev pub object_fault : ℕ → Holdings → ℕ → ℕ → Option ObjectFault
-object_fault order h number place = option_map_or (λ c. take_fault order h c place) (known_cache h number) None
+object_fault order h number place = option_map_or (λ c. option_or (take_fault order h c place) (grid_fault order h c place)) (known_cache h number) None

@@ -6,3 +6,5 @@ pub mod Due
 pub mod Faults
 pub mod WrongBytes
 pub mod Vacancy
+pub mod Idle
+pub mod Emptied

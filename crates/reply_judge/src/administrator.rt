@@ -194,7 +194,7 @@ impl Tenant {
 
     /// Returns whether the slot may be busy, because a frame of it is taken (`is_busy`) or because a cache may have an empty
     /// slab.
-    fn may_be_busy(&self, is_busy: bool) -> bool
+    pub(crate) fn may_be_busy(&self, is_busy: bool) -> bool
         ensures { result ≡ (is_busy || list_any (λ c. slice_index_or self.now.may_have_empty c.number false) self.now.has.caches) }
     {
         is_busy || self.held.may_have_some_empty(&self.may_have_empty)

@@ -1,10 +1,11 @@
 //! What keeps a block from standing, if it shares no frame with a page block, and what keeps an object from being taken.
 
 ghost use Rattle.std.specs.Prelude.{◌≡◌, ◌≤◌, find, not};
+ghost use Rattle.std.specs.Option.{option_or};
 ghost use Rattle.model_core.specs.declared.limits.TheConstants.{MAX_ORDER};
 ghost use Rattle.model_core.specs.Operations.{overlaps};
 ghost use Rattle.promise_core.specs.Holdings.{are_apart, slab_around};
-ghost use Rattle.reply_judge.specs.Faults.{beside_fault, block_fault, take_fault, object_fault, slab_fault, slab_in_way};
+ghost use Rattle.reply_judge.specs.Faults.{beside_fault, block_fault, grid_fault, take_fault, object_fault, slab_fault, slab_in_way};
 
 use crate::tenant::Tenant;
 use known_holdings::{FrameBlock, HeldCache};
@@ -38,6 +39,9 @@ pub enum ObjectFault {
     Over(u32),
     /// All objects of its slab are live.
     Full,
+    /// No object of its slab can begin at its place: with one there, the slab's objects would not lie on one grid, or not all
+    /// within the slab.
+    OffGrid,
 }
 
 impl Tenant {
@@ -63,8 +67,23 @@ impl Tenant {
         ensures { result ≡ object_fault order self.now.has number place }
     {
         match self.held.cache(number) {
-            Some(cache) => self.take_fault(order, cache, place),
+            Some(cache) => self.any_fault(order, cache, place),
             None => None,
+        }
+    }
+
+    /// Returns what keeps an object of the cache from being taken at the place.
+    fn any_fault(&self, order: u8, cache: &HeldCache, place: u32) -> Option<ObjectFault>
+        requires { order ≤ MAX_ORDER }
+        ensures { result ≡ option_or (take_fault order self.now.has cache.now place)
+            (grid_fault order self.now.has cache.now place) }
+    {
+        match self.take_fault(order, cache, place) {
+            Some(fault) => Some(fault),
+            None => {
+                let is_off = !self.held.can_be_taken(order, cache, place);
+                is_off.then_some(ObjectFault::OffGrid)
+            }
         }
     }
 

@@ -1,19 +1,26 @@
 //! What is known of a machine.
 
-ghost use Rattle.std.specs.Prelude.{◌≡◌, ◌==◌, ◌≤◌, IfOk, None, find, length, option_map, replicate, slice_get};
+ghost use Rattle.std.specs.Prelude.{◌≡◌, ◌==◌, ◌≤◌, IfOk, None, count_by, false, filter, find, is_some, length, option_map, replicate, slice_get, true};
 ghost use Rattle.model_core.specs.declared.limits.TheConstants.{MAX_CACHES, MAX_ORDER, MAX_SUPERBLOCKS};
 ghost use Rattle.model_core.specs.Operations.{overlaps};
 ghost use Rattle.std.specs.Option.{option_map_or};
 ghost use Rattle.promise_core.specs.State.{opening, Known};
+ghost use Rattle.model_core.specs.Owners.{is_of};
+ghost use Rattle.promise_core.specs.Holdings.{has_slot, known_cache};
 ghost use Rattle.reply_judge.specs.Due.{refusal_due};
 ghost use Rattle.reply_judge.specs.Faults.{block_fault, object_fault};
+ghost use Rattle.reply_judge.specs.Emptied.{frames_due, frames_told};
+ghost use Rattle.reply_judge.specs.Idle.{idle_slot};
+ghost use Rattle.reply_judge.specs.Seen.{state_of};
 ghost use Rattle.reply_judge.specs.Vacancy.{left_for_block, left_for_object};
 ghost use Rattle.reply_judge.specs.WrongBytes.{wrong_byte};
 ghost use Rattle.shadow_memory.specs.Left.{left_at};
 ghost use Rattle.reply_judge.specs.KnownMachine.{ShowsKnown};
 
 use crate::addressing::tenant_named;
+use crate::bound::Bound;
 use crate::faults::{BlockFault, ObjectFault};
+use crate::owners::count_of;
 use crate::tenant::Tenant;
 use crate::vacancy::Vacancy;
 use crate::wrong_bytes::WrongByte;
@@ -157,6 +164,16 @@ impl KnownMachine {
             .left_for_object(self.order(), cache)
     }
 
+    /// Returns the slot of a tenant if it cannot be busy: the tenant holds it, no frame of it is taken, and no cache may have an
+    /// empty slab. Returns `None` otherwise, or if the tenant does not exist.
+    pub fn idle_slot(&self, tenant: u32, slot: u32) -> Option<u16>
+        ensures { result ≡ option_map_or (λ y. idle_slot self.now.order (state_of y) slot) (slice_get self.now.tenants tenant) None }
+    {
+        self.tenants
+            .get(tenant as usize)?
+            .idle_slot(self.order(), slot)
+    }
+
     /// Returns the refusal that the reply to the event has to be, if there is one.
     pub fn due(&self, event: &Event) -> Option<Refusal>
         ensures { (w : Known) → ShowsKnown self.now w → result ≡ refusal_due w event.now }
@@ -170,6 +187,53 @@ impl KnownMachine {
         match event {
             Event::Tenant(_, command) => self.tenants[t as usize].due(command),
             Event::Admin(command) => self.tenants[t as usize].due_of_admin(&self.owners, command),
+        }
+    }
+
+    /// Returns what the number of frames that come back from empty slabs of the tenant's cache `only`, or of all its caches if
+    /// `only` is `None`, has to be. Returns `None` if it may be `frames`, or if the tenant does not exist.
+    pub fn frames_due(&self, tenant: u32, only: Option<u32>, frames: u32) -> Option<Bound>
+        ensures { result ≡ option_map_or (λ y. frames_due self.now.order (state_of y)
+            (filter (λ c. option_map_or (λ number. c.number == number) only true) y.has.caches) frames)
+            (slice_get self.now.tenants tenant) None }
+    {
+        self.tenants
+            .get(tenant as usize)?
+            .frames_due(self.order(), only, frames)
+    }
+
+    /// Returns the number of frames that the tenant's last report counts in empty slabs of the cache `only`, or of all caches if
+    /// `only` is `None`. Returns `None` if no report is valid, or if the tenant does not exist.
+    pub fn frames_told(&self, tenant: u32, only: Option<u32>) -> Option<u64>
+        ensures { result ≡ option_map_or (λ y. frames_told (state_of y) only) (slice_get self.now.tenants tenant) None }
+    {
+        self.tenants.get(tenant as usize)?.frames_told(only)
+    }
+
+    /// Returns whether the tenant exists and holds the slot.
+    pub fn holds_slot(&self, tenant: u32, slot: u32) -> bool
+        ensures { result ≡ option_map_or (λ y. has_slot y.has slot) (slice_get self.now.tenants tenant) false }
+    {
+        match self.tenants.get(tenant as usize) {
+            Some(tenant) => tenant.holds_slot(slot),
+            None => false,
+        }
+    }
+
+    /// Returns the number of superblocks that the tenant owns.
+    pub fn superblocks_of(&self, tenant: u32) -> usize
+        ensures { result ≡ count_by (is_of tenant) self.now.owners }
+    {
+        count_of(&self.owners, tenant)
+    }
+
+    /// Returns whether the tenant exists and has a cache with this number.
+    pub fn has_cache(&self, tenant: u32, number: u32) -> bool
+        ensures { result ≡ option_map_or (λ y. is_some (known_cache y.has number)) (slice_get self.now.tenants tenant) false }
+    {
+        match self.tenants.get(tenant as usize) {
+            Some(tenant) => tenant.has_cache(number),
+            None => false,
         }
     }
 

@@ -6,10 +6,13 @@
 
 mod addressing;
 mod administrator;
+mod bound;
 mod bytes;
 mod caches;
 mod counts;
+mod emptied;
 mod faults;
+mod idle;
 mod judging;
 mod known_machine;
 mod marks;
@@ -25,6 +28,7 @@ mod vacancy;
 mod verdict;
 mod wrong_bytes;
 
+pub use bound::Bound;
 pub use faults::{BlockFault, ObjectFault};
 pub use known_machine::KnownMachine;
 pub use vacancy::Vacancy;

@@ -39,7 +39,7 @@ pub(crate) fn is_slot_named(t: u32, slot: u32, tenant: u8, named: u16) -> bool
 }
 
 /// Returns the number of superblocks that the tenant owns.
-fn count_of(owners: &[Option<Owner>], t: u32) -> usize
+pub(crate) fn count_of(owners: &[Option<Owner>], t: u32) -> usize
     ensures { result ≡ count_by (is_of t) owners.now }
 {
     owners.iter().filter(|owner| is_of(**owner, t)).count()

@@ -1,10 +1,11 @@
 //! What is known of a tenant.
 
-ghost use Rattle.std.specs.Prelude.{◌≡◌, ◌==◌, ◌≤◌, ℕ, IfOk, None, find, length};
+ghost use Rattle.std.specs.Prelude.{◌≡◌, ◌==◌, ◌≤◌, ℕ, IfOk, None, find, is_some, length};
 ghost use Rattle.model_core.specs.declared.limits.TheConstants.{MAX_ORDER, MAX_SUPERBLOCKS};
 ghost use Rattle.model_core.specs.Operations.{overlaps};
 ghost use Rattle.words_core.specs.Requests.{body_of_answer};
 ghost use Rattle.words_core.specs.declared.event.Event.TheVariants as On;
+ghost use Rattle.promise_core.specs.Holdings.{has_slot, known_cache};
 ghost use Rattle.promise_core.specs.State.{Known};
 ghost use Rattle.reply_judge.specs.Judged.{IsVerdictFor, AreOwnersAfter};
 ghost use Rattle.reply_judge.specs.Seen.{Seen, IsOpeningTenant};
@@ -83,6 +84,20 @@ impl Tenant {
         ensures { result ≡ length self.now.has.caches }
     {
         self.held.caches().len()
+    }
+
+    /// Returns whether the tenant holds the slot.
+    pub(crate) fn holds_slot(&self, slot: u32) -> bool
+        ensures { result ≡ has_slot self.now.has slot }
+    {
+        self.held.has_slot(slot)
+    }
+
+    /// Returns whether the tenant has a cache with this number.
+    pub(crate) fn has_cache(&self, number: u32) -> bool
+        ensures { result ≡ is_some (known_cache self.now.has number) }
+    {
+        self.held.cache(number).is_some()
     }
 
     /// Judges and follows the reply to a command of the tenant.

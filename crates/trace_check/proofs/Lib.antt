@@ -16,6 +16,7 @@ pub mod CheckLemmas
 pub mod StillKnown
 pub mod TakenLemmas
 pub mod ReasonLemmas
+pub mod NewCacheLemmas
 pub mod TextLemmas
 pub mod CountLemmas
 pub mod LawLemmas

@@ -1,6 +1,6 @@
 -- The reasons that are worked out for some promises alone.
-use Rattle.std.proofs.Common.{◌≡◌, ◌∙◌, ℕ, Bool, List, Option, Some, None, length, slice_get, refl, sym, ap}
-use Rattle.std.specs.Prelude.{MatchOption, if◌then◌else◌, option_map}
+use Rattle.std.proofs.Common.{◌≡◌, ◌∙◌, ℕ, Bool, true, List, Option, Some, None, length, slice_get, refl, sym, ap}
+use Rattle.std.specs.Prelude.{◌==◌, MatchOption, filter, if◌then◌else◌, option_map}
 use Rattle.std.specs.Option.{option_map_or}
 use Rattle.std.proofs.lemmas.Bool.{eq-eqb}
 use Rattle.std.proofs.lemmas.Option.{slice_get-map}
@@ -8,13 +8,18 @@ use Rattle.words_core.specs.declared.reply.Body.{Body}
 use Rattle.words_core.specs.declared.event.Event.{Event}
 use Rattle.words_core.specs.declared.reply.Reply.{Reply}
 use Rattle.promise_core.specs.declared.promise.Promise.{Promise}
+use Rattle.promise_core.specs.Holdings.{KnownCache}
 use Rattle.promise_core.specs.State.{Known, State}
+use Rattle.reply_judge.specs.declared.bound.Bound.{Bound}
+use Rattle.reply_judge.specs.Emptied.{frames_due, frames_told}
+use Rattle.reply_judge.specs.Idle.{idle_slot}
 use Rattle.reply_judge.specs.KnownMachine.{SeenMachine, known_of}
 use Rattle.reply_judge.specs.Seen.{Seen, state_of}
 use Rattle.reply_judge.specs.WrongBytes.{wrong_byte}
 use Rattle.reply_judge.specs.declared.wrong_bytes.WrongByte.{WrongByte}
 use Rattle.shadow_memory.specs.Left.{left_at}
-use Rattle.trace_check.specs.Reasons.{IsReason, IsReasonOf, read_wrong}
+use Rattle.trace_check.specs.Reasons.{IsReason, IsReasonOf, frames_wrong, read_wrong, slot_idle, still_wrong}
+use Rattle.trace_check.specs.declared.figure.Figure.{Figure}
 use Rattle.trace_check.specs.declared.reason.Reason.{Reason}
 
 -- the reason why a reply breaks a promise other than Form and Refusals is the reason that its answer gives
@@ -26,14 +31,58 @@ in_reply promise w event reply reason other-1 other-2 is = is
 
 pub none_given : (promise : Promise) (w : Known) (event : Event) (body : Body) → (promise ≡ Promise.Blocks → ⊥) → (promise ≡ Promise.Gives → ⊥)
     → (promise ≡ Promise.Owners → ⊥) → (promise ≡ Promise.Bytes → ⊥)
-    → (promise ≡ Promise.Objects → ⊥) → (promise ≡ Promise.Room → ⊥) → IsReasonOf promise w event body None
-none_given Promise.Blocks w event body other-1 other-2 other-3 other-4 other-5 other-6 = absurd (other-1 refl)
-none_given Promise.Gives w event body other-1 other-2 other-3 other-4 other-5 other-6 = absurd (other-2 refl)
-none_given Promise.Owners w event body other-1 other-2 other-3 other-4 other-5 other-6 = absurd (other-3 refl)
-none_given Promise.Bytes w event body other-1 other-2 other-3 other-4 other-5 other-6 = absurd (other-4 refl)
-none_given Promise.Objects w event body other-1 other-2 other-3 other-4 other-5 other-6 = absurd (other-5 refl)
-none_given Promise.Room w event body other-1 other-2 other-3 other-4 other-5 other-6 = absurd (other-6 refl)
-none_given promise w event body other-1 other-2 other-3 other-4 other-5 other-6 = refl
+    → (promise ≡ Promise.Objects → ⊥) → (promise ≡ Promise.Room → ⊥) → (promise ≡ Promise.Busy → ⊥)
+    → (promise ≡ Promise.Layout → ⊥) → (promise ≡ Promise.Still → ⊥) → IsReasonOf promise w event body None
+none_given Promise.Blocks w event body other-1 other-2 other-3 other-4 other-5 other-6 other-7 other-8 other-9 = absurd (other-1 refl)
+none_given Promise.Gives w event body other-1 other-2 other-3 other-4 other-5 other-6 other-7 other-8 other-9 = absurd (other-2 refl)
+none_given Promise.Owners w event body other-1 other-2 other-3 other-4 other-5 other-6 other-7 other-8 other-9 = absurd (other-3 refl)
+none_given Promise.Bytes w event body other-1 other-2 other-3 other-4 other-5 other-6 other-7 other-8 other-9 = absurd (other-4 refl)
+none_given Promise.Objects w event body other-1 other-2 other-3 other-4 other-5 other-6 other-7 other-8 other-9 = absurd (other-5 refl)
+none_given Promise.Room w event body other-1 other-2 other-3 other-4 other-5 other-6 other-7 other-8 other-9 = absurd (other-6 refl)
+none_given Promise.Busy w event body other-1 other-2 other-3 other-4 other-5 other-6 other-7 other-8 other-9 = absurd (other-7 refl)
+none_given Promise.Layout w event body other-1 other-2 other-3 other-4 other-5 other-6 other-7 other-8 other-9 = absurd (other-8 refl)
+none_given Promise.Still w event body other-1 other-2 other-3 other-4 other-5 other-6 other-7 other-8 other-9 = absurd (other-9 refl)
+none_given promise w event body other-1 other-2 other-3 other-4 other-5 other-6 other-7 other-8 other-9 = refl
+
+-- what is found of a stored tenant is what is found of the tenant's state
+pub told_of : {A B : Type 0} (x : SeenMachine) (t : ℕ) (told : A → B) (of_state : State → Option B) (of_seen : Seen → Option A)
+    → ((y : Seen) → option_map told (of_seen y) ≡ of_state (state_of y))
+    → option_map told (option_map_or of_seen (slice_get x.tenants t) None) ≡ option_map_or of_state (slice_get (known_of x).states t) None
+told_of {A} {B} x t told of_state of_seen same = go (slice_get x.tenants t)
+    ∙ sym (ap (λ (o : Option State). option_map_or of_state o None) (slice_get-map state_of x.tenants t))
+  where
+    go : (o : Option Seen) → option_map told (option_map_or of_seen o None) ≡ option_map_or of_state (option_map state_of o) None
+    go None = refl
+    go (Some y) = same y
+
+-- the slot that the machine finds idle is the reason
+pub idle_told : (x : SeenMachine) (t u : ℕ) (found : Option ℕ)
+    → found ≡ option_map_or (λ y. idle_slot x.order (state_of y) u) (slice_get x.tenants t) None
+    → option_map (λ slot. Reason.Idle slot) found ≡ slot_idle (known_of x) t u
+idle_told x t u found is = ap (option_map (λ slot. Reason.Idle slot)) is
+    ∙ told_of x t (λ slot. Reason.Idle slot) (λ s. option_map (λ slot. Reason.Idle slot) (idle_slot x.order s u)) (λ y. idle_slot x.order (state_of y) u) (λ y. refl)
+
+-- the caches that a test of the number picks
+abbrev asked : Option ℕ → List KnownCache → List KnownCache
+asked only = filter (λ c. option_map_or (λ number. c.number == number) only true)
+
+-- the bound that the machine finds for a number of frames is the reason
+pub frames_told_wrong : (x : SeenMachine) (t : ℕ) (only : Option ℕ) (frames : ℕ) (found : Option Bound)
+    → found ≡ option_map_or (λ y. frames_due x.order (state_of y) (asked only y.has.caches) frames) (slice_get x.tenants t) None
+    → option_map (λ bound. Reason.Figure Figure.Frames bound) found ≡ frames_wrong (known_of x) t only frames
+frames_told_wrong x t only frames found is = ap (option_map (λ bound. Reason.Figure Figure.Frames bound)) is
+    ∙ told_of x t (λ bound. Reason.Figure Figure.Frames bound)
+    (λ s. option_map (λ bound. Reason.Figure Figure.Frames bound) (frames_due x.order s (asked only s.has.caches) frames))
+    (λ y. frames_due x.order (state_of y) (asked only y.has.caches) frames) (λ y. refl)
+
+-- the number of frames that the machine finds in the last report is the reason
+pub frames_still_told : (x : SeenMachine) (t : ℕ) (only : Option ℕ) (found : Option ℕ)
+    → found ≡ option_map_or (λ y. frames_told (state_of y) only) (slice_get x.tenants t) None
+    → option_map (λ frames. Reason.Figure Figure.Frames (Bound.Exactly frames)) found ≡ still_wrong (known_of x) t only
+frames_still_told x t only found is = ap (option_map (λ frames. Reason.Figure Figure.Frames (Bound.Exactly frames))) is
+    ∙ told_of x t (λ frames. Reason.Figure Figure.Frames (Bound.Exactly frames))
+    (λ s. option_map (λ frames. Reason.Figure Figure.Frames (Bound.Exactly frames)) (frames_told s only))
+    (λ y. frames_told (state_of y) only) (λ y. refl)
 
 -- the first wrong byte of a read, by the tenant's state
 abbrev wrong_in : (place len : ℕ) → List ℕ → State → Option Reason

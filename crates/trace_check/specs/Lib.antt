@@ -9,4 +9,6 @@ pub mod Checking
 pub mod Laws
 pub mod Taken
 pub mod Kinds
+pub mod NewCache
+pub mod Owners
 pub mod Reasons

@@ -1,7 +1,7 @@
 -- Why a reply breaks a promise, by what is known before the reply. For some promises, and for some replies, no reason is worked
 -- out.
-use Rattle.std.specs.Prelude.{◌≡◌, ◌==◌, ℕ, nat_le, if◌then◌else◌, List, length, Option, Some, None, Result, Ok, Err, MatchOption, find, is_some, option_map, slice_get}
-use Rattle.std.specs.Option.{option_map_or}
+use Rattle.std.specs.Prelude.{◌≡◌, ◌==◌, ℕ, nat_le, if◌then◌else◌, List, length, Option, Some, None, Result, Ok, Err, MatchOption, filter, find, is_some, option_map, slice_get, true}
+use Rattle.std.specs.Option.{option_map_or, option_or}
 use Rattle.model_core.specs.Blocks.{Block, block}
 use Rattle.model_core.specs.declared.limits.TheConstants.{MAX_ORDER}
 use Rattle.model_core.specs.declared.owner.Owner.{Owner}
@@ -15,16 +15,22 @@ use Rattle.words_core.specs.Grammar.{reading_of}
 use Rattle.promise_core.specs.declared.promise.Promise.{Promise}
 use Rattle.promise_core.specs.State.{Known}
 use Rattle.reply_judge.specs.Due.{refusal_due}
+use Rattle.reply_judge.specs.Emptied.{frames_due, frames_told}
 use Rattle.reply_judge.specs.Faults.{block_fault, object_fault}
+use Rattle.reply_judge.specs.Idle.{idle_slot}
 use Rattle.reply_judge.specs.Vacancy.{left_for_block, left_for_object}
 use Rattle.reply_judge.specs.WrongBytes.{wrong_byte}
 use Rattle.reply_judge.specs.declared.vacancy.Vacancy.{Vacancy}
 use Rattle.trace_check.specs.Forms.{◌>>=◌}
 use Rattle.trace_check.specs.Gathered.{whole_of}
 use Rattle.trace_check.specs.Kinds.{kind_of_admin, kind_of_command}
+use Rattle.trace_check.specs.NewCache.{layout_wrong, number_wrong}
+use Rattle.trace_check.specs.Owners.{grant_wrong, move_wrong, reset_wrong}
 use Rattle.trace_check.specs.Reading.{without_line_feed}
 use Rattle.trace_check.specs.Replies.{answer_of}
 use Rattle.trace_check.specs.Taken.{IsInWay}
+use Rattle.reply_judge.specs.declared.bound.Bound.{Bound}
+use Rattle.trace_check.specs.declared.figure.Figure.{Figure}
 use Rattle.trace_check.specs.declared.reason.Reason.{Reason}
 use Rattle.trace_check.specs.declared.shown.TheConstants.{MAX_TEXT_BYTES}
 use Rattle.trace_check.specs.declared.taken.TakenFrame.{TakenFrame}
@@ -102,14 +108,64 @@ left_for w (Event.Tenant t (Command.Alloc k)) =
 left_for w (Event.Tenant t (Command.Take number)) = option_map_or (λ s. left_for_object w.order s.has number) (slice_get w.states t) None
 left_for w event = None
 
--- the reason why a reply of one line breaks this promise; for Gives it is the page block that is freed, if the event is a free
+-- why slot u of tenant t cannot be busy
+abbrev pub slot_idle : Known → (t u : ℕ) → Option Reason
+slot_idle w t u = option_map_or (λ s. option_map (λ slot. Reason.Idle slot) (idle_slot w.order s u)) (slice_get w.states t) None
+
+-- why the event may not be refused because a slot is busy
+abbrev pub not_busy : Known → Event → Option Reason
+not_busy w (Event.Admin (AdminCommand.TakeBack t u)) = slot_idle w t u
+not_busy w event = Some Reason.NotTakeBack
+
+-- what is wrong with the number or the layout of the reply's new cache
+abbrev pub new_cache_wrong : Known → Event → Body → Option Reason
+new_cache_wrong w (Event.Tenant t (Command.Cache size align pattern)) (Body.Cache number chunk q n colours) =
+    option_or (number_wrong w t number) (layout_wrong w.order size align chunk q n colours)
+new_cache_wrong w event body = None
+
+-- what the number of frames from empty slabs of the cache `only` of tenant t, or of all its caches if `only` is None, has to be, if
+-- it may not be `frames`
+abbrev pub frames_wrong : Known → (t : ℕ) → (only : Option ℕ) → (frames : ℕ) → Option Reason
+frames_wrong w t only frames = option_map_or (λ s. option_map (λ bound. Reason.Figure Figure.Frames bound)
+    (frames_due w.order s (filter (λ c. option_map_or (λ number. c.number == number) only true) s.has.caches) frames)) (slice_get w.states t) None
+
+-- what the number of frames in the reply to a destroy or a reap has to be
+abbrev pub frames_given : Known → Event → Body → Option Reason
+frames_given w (Event.Tenant t (Command.Destroy number)) (Body.Destroyed frames) = frames_wrong w t (Some number) frames
+frames_given w (Event.Tenant t Command.Reap) (Body.Reaped frames) = frames_wrong w t None frames
+frames_given w event body = None
+
+-- how many frames the last report counts in empty slabs of the cache `only` of tenant t, or of all its caches if `only` is None
+abbrev pub still_wrong : Known → (t : ℕ) → (only : Option ℕ) → Option Reason
+still_wrong w t only = option_map_or (λ s. option_map (λ frames. Reason.Figure Figure.Frames (Bound.Exactly frames)) (frames_told s only))
+    (slice_get w.states t) None
+
+-- how many frames the reply to a destroy or a reap has to report after the last report
+abbrev pub frames_still : Known → Event → Body → Option Reason
+frames_still w (Event.Tenant t (Command.Destroy number)) (Body.Destroyed frames) = still_wrong w t (Some number)
+frames_still w (Event.Tenant t Command.Reap) (Body.Reaped frames) = still_wrong w t None
+frames_still w event body = None
+
+-- which number of the reply to a grant, a move or a reset is wrong, if the superblock is not
+abbrev pub change_wrong : Known → Event → Body → Option Reason
+change_wrong w (Event.Admin (AdminCommand.Grant t)) (Body.Granted named u m) = grant_wrong w t named u
+change_wrong w (Event.Admin (AdminCommand.Move t u)) (Body.Moved named slot m) = move_wrong t u named slot
+change_wrong w (Event.Admin (AdminCommand.Reset t)) (Body.WasReset named superblocks) = reset_wrong w t named superblocks
+change_wrong w event body = None
+
+-- the reason why a reply of one line breaks this promise; for Gives it is the page block that is freed, if the event is a free, and
+-- for Owners the owner of the superblock first
 abbrev pub IsReasonOf : Promise → Known → Event → Body → Option Reason → Type 0
 IsReasonOf Promise.Blocks w event body reason = IsBlockReason w event body reason
-IsReasonOf Promise.Gives w event body reason = reason ≡ option_map (λ page. Reason.Freed page) (page_freed w event)
-IsReasonOf Promise.Owners w event body reason = reason ≡ owner_in_way w event body
+IsReasonOf Promise.Gives w event body reason =
+    reason ≡ option_or (option_map (λ page. Reason.Freed page) (page_freed w event)) (frames_given w event body)
+IsReasonOf Promise.Owners w event body reason = reason ≡ option_or (owner_in_way w event body) (change_wrong w event body)
 IsReasonOf Promise.Bytes w event body reason = reason ≡ bytes_wrong w event body
 IsReasonOf Promise.Objects w event body reason = reason ≡ unfit_object w event body
 IsReasonOf Promise.Room w event body reason = reason ≡ option_map (λ vacancy. Reason.Left vacancy) (left_for w event)
+IsReasonOf Promise.Busy w event body reason = reason ≡ not_busy w event
+IsReasonOf Promise.Layout w event body reason = reason ≡ new_cache_wrong w event body
+IsReasonOf Promise.Still w event body reason = reason ≡ frames_still w event body
 IsReasonOf promise w event body reason = reason ≡ None
 
 -- whom the reply to an event has to go to, and the kind of answer that the event has; a tenant that does not exist gets no answer

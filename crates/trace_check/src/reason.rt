@@ -1,24 +1,28 @@
 //! Why a reply breaks a promise.
 
-ghost use Rattle.std.specs.Prelude.{◌≡◌, ℕ, List, None, MatchOption, option_map, slice_get};
+ghost use Rattle.std.specs.Prelude.{◌≡◌, ℕ, List, None, MatchOption, option_map};
 ghost use Rattle.words_core.specs.Requests.{body_of_answer};
 ghost use Rattle.promise_core.specs.State.{Known};
 ghost use Rattle.reply_judge.specs.KnownMachine.{ShowsKnown};
 ghost use Rattle.trace_check.specs.Gathered.{Gathers};
-ghost use Rattle.trace_check.specs.Reasons.{IsBlockReason, IsReason, IsReasonOf, answer_read, bytes_wrong, not_gained, not_lost, owner_in_way};
-ghost use Rattle.trace_check.specs.Reasons.{form_due, left_for, page_freed, read_wrong, unfit_block, unfit_object};
+ghost use Rattle.trace_check.specs.Reasons.{IsBlockReason, IsReason, IsReasonOf, answer_read, bytes_wrong, form_due, left_for, not_busy};
+ghost use Rattle.trace_check.specs.Reasons.{read_wrong, slot_idle, unfit_block, unfit_object};
 ghost use Rattle.trace_check.specs.declared.reason.Reason.TheVariants as Why;
 
 use crate::answer::read_answer;
+use crate::figure::Figure;
+use crate::frames::{gives_reason, still_reason};
 use crate::gathered::Gathered;
 use crate::kinds::{AnswerKind, kind_of_admin, kind_of_command};
+use crate::new_cache::layout_reason;
+use crate::owners::owners_reason;
 use crate::shown::MAX_TEXT_BYTES;
 use crate::taken::{TakenFrame, taken_frame};
 use known_holdings::FrameBlock;
 use model_core::limits::{MAX_BYTES, MAX_ORDER};
 use model_core::owner::Owner;
 use promise_core::promise::Promise;
-use reply_judge::{BlockFault, KnownMachine, ObjectFault, Vacancy, WrongByte};
+use reply_judge::{BlockFault, Bound, KnownMachine, ObjectFault, Vacancy, WrongByte};
 use words_core::{AdminCommand, Answer, Command, Event, Refusal};
 
 /// Why a reply breaks a promise.
@@ -64,6 +68,19 @@ pub enum Reason {
     },
     /// `Room`: this is left for the request.
     Left(Vacancy),
+    /// `Busy`: no frame of this slot is taken, and no cache may have an empty slab.
+    Idle(u16),
+    /// `Busy`: the event is no take-back.
+    NotTakeBack,
+    /// `Layout`, `Gives`, `Owners` or `Still`: this number of the reply has to be within this bound.
+    Figure {
+        figure: Figure,
+        bound: Bound,
+    },
+    /// `Owners`: the tenant holds this slot already.
+    Held(u16),
+    /// `Layout`: the tenant has a cache with this number already.
+    Existing(u8),
 }
 
 /// Returns why the reply to the event breaks the promise. `reply` has the bytes that were read as the reply. Returns `None` if no
@@ -127,24 +144,14 @@ fn reason_in_answer(
 {
     match promise {
         Promise::Blocks => block_reason(machine, event, answer),
-        Promise::Gives => freed_reason(machine, event),
-        Promise::Owners => owner_reason(machine, event, answer),
+        Promise::Gives => gives_reason(machine, event, answer),
+        Promise::Owners => owners_reason(machine, event, answer),
         Promise::Bytes => bytes_reason(machine, event, answer),
         Promise::Objects => object_reason(machine, event, answer),
         Promise::Room => left_reason(machine, event),
-        _ => None,
-    }
-}
-
-/// Returns the live page block that the event frees, if there is one.
-fn freed_reason(machine: &KnownMachine, event: &Event) -> Option<Reason>
-    ensures { (w : Known) → ShowsKnown machine.now w
-        → result ≡ option_map (λ page. Why.Freed page) (page_freed w event.now) }
-{
-    match event {
-        Event::Tenant(tenant, Command::Free { frame }) => {
-            Some(Reason::Freed(machine.page_at(*tenant, *frame)?))
-        }
+        Promise::Busy => busy_reason(machine, event),
+        Promise::Layout => layout_reason(machine, event, answer),
+        Promise::Still => still_reason(machine, event, answer),
         _ => None,
     }
 }
@@ -173,46 +180,6 @@ fn unfit_reason(machine: &KnownMachine, event: &Event, answer: &Answer<'_>) -> O
             Some(Reason::Unfit { block, fault })
         }
         _ => None,
-    }
-}
-
-/// Returns the owner of the superblock that the answer reports, if a tenant may not get it or lose it.
-fn owner_reason(machine: &KnownMachine, event: &Event, answer: &Answer<'_>) -> Option<Reason>
-    ensures { (w : Known) → ShowsKnown machine.now w → result ≡ owner_in_way w event.now (body_of_answer answer.now) }
-{
-    match (event, answer) {
-        (Event::Admin(AdminCommand::Grant { .. }), Answer::Granted { superblock, .. }) => {
-            not_gained(machine, *superblock)
-        }
-        (Event::Admin(AdminCommand::Move { .. }), Answer::Moved { superblock, .. }) => {
-            not_gained(machine, *superblock)
-        }
-        (Event::Admin(AdminCommand::TakeBack { .. }), Answer::TakenBack(superblock)) => {
-            not_lost(machine, *superblock)
-        }
-        _ => None,
-    }
-}
-
-/// Returns why a tenant may not get the superblock.
-fn not_gained(machine: &KnownMachine, superblock: u16) -> Option<Reason>
-    ensures { (w : Known) → ShowsKnown machine.now w → result ≡ not_gained superblock (slice_get w.owners superblock) }
-{
-    match machine.owner_of(superblock) {
-        Some(Some(owner)) => Some(Reason::Owned { superblock, owner }),
-        Some(None) => None,
-        None => Some(Reason::Missing(superblock)),
-    }
-}
-
-/// Returns why a tenant may not lose the superblock.
-fn not_lost(machine: &KnownMachine, superblock: u16) -> Option<Reason>
-    ensures { (w : Known) → ShowsKnown machine.now w → result ≡ not_lost superblock (slice_get w.owners superblock) }
-{
-    match machine.owner_of(superblock) {
-        Some(Some(owner)) => Some(Reason::Owned { superblock, owner }),
-        Some(None) => Some(Reason::Unowned(superblock)),
-        None => Some(Reason::Missing(superblock)),
     }
 }
 
@@ -292,5 +259,27 @@ fn left_for(machine: &KnownMachine, event: &Event) -> Option<Vacancy>
             machine.left_for_object(*tenant, *cache)
         }
         _ => None,
+    }
+}
+
+/// Returns why the event may not be refused because a slot is busy.
+fn busy_reason(machine: &KnownMachine, event: &Event) -> Option<Reason>
+    ensures { (w : Known) → ShowsKnown machine.now w → result ≡ not_busy w event.now }
+{
+    match event {
+        Event::Admin(AdminCommand::TakeBack { tenant, slot }) => {
+            slot_idle(machine, *tenant, *slot)
+        }
+        _ => Some(Reason::NotTakeBack),
+    }
+}
+
+/// Returns why the slot of the tenant cannot be busy.
+fn slot_idle(machine: &KnownMachine, tenant: u32, slot: u32) -> Option<Reason>
+    ensures { (w : Known) → ShowsKnown machine.now w → result ≡ slot_idle w tenant slot }
+{
+    match machine.idle_slot(tenant, slot) {
+        Some(slot) => Some(Reason::Idle(slot)),
+        None => None,
     }
 }

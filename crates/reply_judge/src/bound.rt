@@ -1,0 +1,14 @@
+//! What a number in a reply has to be.
+
+/// What a number has to be.
+#[derive(Clone, Copy, Debug)]
+pub enum Bound {
+    /// This number.
+    Exactly(u64),
+    /// This number, or more.
+    AtLeast(u64),
+    /// This number, or less.
+    AtMost(u64),
+    /// A multiple of this number.
+    MultipleOf(u64),
+}
