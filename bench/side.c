@@ -4,8 +4,9 @@
  *
  * WAY is `one-lock` for a machine under one lock, `tenants` for a machine with a lock for each tenant, `machines` for a machine and
  * a lock for each tenant, or `malloc` for the allocator that is linked or preloaded. LOAD is `objects` of 64 bytes, taken or given
- * back at random, or `pages`, blocks of order 0 to 2. Each thread makes CALLS calls. Prints million calls a second, of all threads
- * together, from the first beginning to the last end.
+ * back at random, or `pages`, blocks of order 0 to 2. The superblocks are of order 4, so what the tables have on those of several
+ * tenants lies in one page; with `objects-8` and `pages-8` they are of order 8. Each thread makes CALLS calls. Prints million calls
+ * a second, of all threads together, from the first beginning to the last end.
  */
 #define _GNU_SOURCE /* processors of threads */
 #include <pthread.h>
@@ -18,9 +19,11 @@
 
 #include "partmem.h"
 
-enum { MAX_THREADS = 64, MAX_PLACES = 2000, MAX_PAGES = 60, ORDER = 4, SLOTS = 4, LINES = 128 /* bytes of a pair of cache lines */ };
+enum { MAX_THREADS = 64, MAX_PLACES = 2000, MAX_PAGES = 60, SLOTS = 4, LINES = 128 /* bytes of a pair of cache lines */ };
 enum way { ONE_LOCK, TENANTS, MACHINES, MALLOC, WAYS };
 static const char *const names[WAYS] = {"one-lock", "tenants", "machines", "malloc"};
+enum { LOADS = 4 };
+static const char *const loads[LOADS] = {"objects", "pages", "objects-8", "pages-8"};
 
 /* What a thread has: its tenant, which lock it takes, and its blocks or objects. */
 struct worker {
@@ -42,7 +45,7 @@ static partmem_machine machine;
 static pthread_barrier_t start;
 static enum way way;
 static bool is_pages;
-static uint32_t threads, calls;
+static uint32_t threads, calls, superblock_order;
 
 static void check(bool holds, const char *what)
 {
@@ -111,7 +114,7 @@ static void *work(void *worker)
 /* Boots a machine whose RAM and tables share no cache line with anything else. */
 static void boot(partmem_machine *booted, uint32_t tenants)
 {
-    const partmem_config config = {ORDER, tenants * SLOTS, tenants};
+    const partmem_config config = {superblock_order, tenants * SLOTS, tenants};
     const size_t bytes = PARTMEM_TABLE_BYTES(config.order, config.superblocks, config.tenants);
     const partmem_memory memory = {
         aligned_alloc(PARTMEM_FRAME_BYTES, PARTMEM_RAM_BYTES(config.order, config.superblocks)),
@@ -167,11 +170,13 @@ static double run(void)
 
 int main(int count, char **words)
 {
+    uint32_t load = 0;
     check(count == 5, "usage: side WAY LOAD THREADS CALLS");
     while (way < WAYS && strcmp(words[1], names[way])) way++;
-    is_pages = !strcmp(words[2], "pages");
+    while (load < LOADS && strcmp(words[2], loads[load])) load++;
+    is_pages = load % 2 == 1, superblock_order = load < 2 ? 4 : 8;
     threads = (uint32_t)atoi(words[3]), calls = (uint32_t)atoi(words[4]);
-    check(way < WAYS && (is_pages || !strcmp(words[2], "objects")), "no such way or load");
+    check(way < WAYS && load < LOADS, "no such way or load");
     check(threads >= 1 && threads <= MAX_THREADS && calls >= 1, "numbers out of range");
     choose_processors();
     for (uint32_t i = 0; i < threads; i++) workers[i].random = 88172645463325252u + 7919u * i;
