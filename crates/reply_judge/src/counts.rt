@@ -2,7 +2,7 @@
 
 ghost use Rattle.std.specs.Prelude.{◌≡◌, ℕ, ◌+◌, ◌*◌, ◌^◌, ◌≤◌, ◌<◌, length, map, drop, slice_index, Some, IfSome};
 ghost use Rattle.model_core.specs.Reports.{greatest, split_share as share};
-ghost use Rattle.model_core.specs.declared.limits.TheConstants.{MAX_ORDER};
+ghost use Rattle.model_core.specs.declared.limits.TheConstants.{MAX_ORDER, WIDE_ORDER};
 ghost use Rattle.promise_core.specs.Promises.{frames_of_counts};
 
 use arrayvec::ArrayVec;
@@ -39,9 +39,9 @@ pub(crate) fn frames_of_counts(counts: &[u32]) -> u64
 
 /// Returns the number of frames in `count` blocks of an order.
 pub(crate) fn frames_in(count: u32, order: u8) -> u64
-    requires { order ≤ MAX_ORDER }
+    requires { order ≤ WIDE_ORDER }
     ensures value { result ≡ count * 2 ^ order }
-    ensures most { result ≤ 2 ^ 40 }
+    ensures most { result ≤ 2 ^ 42 }
 {
     u64::from(count) * (1u64 << order)
 }

@@ -81,7 +81,7 @@ fn sum_empty(caches: &[HeldCache], rows: &[CacheRow], only: Option<u32>) -> u64
 fn empty_in(cache: &HeldCache, row: &CacheRow, only: Option<u32>) -> u64
     ensures value { result
         ≡ (if option_map_or (λ number. cache.now.number == number) only true then row.now.empty * 2 ^ cache.now.order else 0) }
-    ensures most { result ≤ 2 ^ 40 }
+    ensures most { result ≤ 2 ^ 42 }
 {
     if is_asked(cache, only) {
         frames_in(row.empty, cache.order())

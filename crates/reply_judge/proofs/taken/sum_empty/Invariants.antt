@@ -8,5 +8,5 @@ abbrev pub invariant-loop-cache : goal.invariant-loop-cache
 invariant-loop-cache l = record {
   summed : l.frames ≡ sum_by (λ p. if option_map_or (λ number. p.0.number == number) l.only true then p.1.empty * 2 ^ p.0.order else 0)
       (take (length l.yielded) (zip l.caches l.rows));
-  most : l.frames ≤ length l.yielded * 2 ^ 40;
+  most : l.frames ≤ length l.yielded * 2 ^ 42;
 }
