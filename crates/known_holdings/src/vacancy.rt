@@ -34,7 +34,7 @@ impl Held {
     /// Returns the result of [`Held::count_vacant`] for each order from 0 to a slot's order, but passes over the slots only once.
     pub fn vacant_by_order(&self, order: u8) -> [u128; ORDERS]
         requires { order ≤ MAX_ORDER }
-        ensures long { length result ≡ 9 }
+        ensures long { length result ≡ 11 }
         ensures counts { (k : ℕ) → k ≤ order → slice_index result k ≡ length (vacant_blocks order self.now k) }
     {
         let mut counts = [0u128; ORDERS];

@@ -146,7 +146,7 @@ unfolding report_at
 report_takes front text body rest e =
     let (head, head_is, next) = bind_some (form_at (codes "frames # live # free # top ") text) (after_head front) (body, rest) e in
     let (top, top_is, last) = bind_some (some_top_at head.1) (with_top front head.0) (body, rest) next in
-    let orders = rows_from order_at front 9 0 top.1 in
+    let orders = rows_from order_at front 11 0 top.1 in
     let caches = rows_from cache_row_at front 32 0 orders.1 in
     let report = report_made head.0 top.0.0 top.0.1 orders.0 caches.0 in
     let (body_is, rest_is) = some_pair_parts (Say.Report report) body caches.1 rest last in
@@ -159,7 +159,7 @@ report_takes front text body rest e =
     ∙ (λ i. form_text (codes "frames # live # free # top ") (sym (three head.0 count) i)
     ++ (top_takes head.1 top.0 top.1 top_is
     ∙ ap (λ t. top_line top.0.0 top.0.1 ++ t)
-    (rows_take order_at order_line front order_takes 9 0 top.1
+    (rows_take order_at order_line front order_takes 11 0 top.1
     ∙ ap (λ t. order_lines ++ t) (rows_take cache_row_at cache_line front cache_takes 32 0 orders.1))) i) in
     let taken : front ++ text ≡ with_end (body_texts front body) ++ rest =
     ap (λ t. front ++ t)
@@ -204,7 +204,7 @@ report_again front report fits =
     (form_again form ns line refl refl
     (small_more report.frames (report.live ∷ report.free ∷ []) fits.frames (small_more report.live (report.free ∷ []) fits.live (small_one report.free fits.free))))
     (top_again report.top report.split (order_lines ++ later) fits.top fits.split)
-    (rows_again order_at order_line front OrderFits order_again 9 0 report.orders.items later fits.few_orders (omega arith) fits.orders
+    (rows_again order_at order_line front OrderFits order_again 11 0 report.orders.items later fits.few_orders (omega arith) fits.orders
     (λ order. no_order front order report.caches.items))
     (rows_again cache_row_at cache_line front CacheFits cache_again 32 0 report.caches.items [] fits.few_caches (omega arith) fits.caches (no_cache front))
 

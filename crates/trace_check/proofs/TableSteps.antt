@@ -29,11 +29,11 @@ with_orders front ns top split orders =
     with_caches ns top split orders.0 (rows_from cache_row_at front 32 0 orders.1)
 
 abbrev pub with_top : List ℕ → List ℕ → (Option ℕ × ℕ) × List ℕ → Option (Body × List ℕ)
-with_top front ns top = with_orders front ns top.0.0 top.0.1 (rows_from order_at front 9 0 top.1)
+with_top front ns top = with_orders front ns top.0.0 top.0.1 (rows_from order_at front 11 0 top.1)
 
 pub report_is : (front text ns line : List ℕ) (top : Option ℕ) (split : ℕ) (rows : List ℕ) (orders : List OrderRow) (later : List ℕ)
     (caches : List CacheRow) (rest : List ℕ) → form_at (codes "frames # live # free # top ") text ≡ Some (ns, line)
-    → some_top_at line ≡ Some ((top, split), rows) → rows_from order_at front 9 0 rows ≡ (orders, later)
+    → some_top_at line ≡ Some ((top, split), rows) → rows_from order_at front 11 0 rows ≡ (orders, later)
     → rows_from cache_row_at front 32 0 later ≡ (caches, rest)
     → report_at front text ≡ Some (Say.Report (report_made ns top split orders caches), rest)
 unfolding report_at

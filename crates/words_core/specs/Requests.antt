@@ -1,7 +1,7 @@
 -- The command that a `Request` stands for, the reply that an `Answer` or a `Table` stands for, and tests of these three types.
 -- Values of these types borrow their bytes or rows.
 use Rattle.std.specs.Prelude.{◌≡◌, ℕ, ◌≤◌, Bool, true, false, if◌then◌else◌, length}
-use Rattle.model_core.specs.declared.limits.TheConstants.{MAX_BYTES, MAX_SUPERBLOCKS}
+use Rattle.model_core.specs.declared.limits.TheConstants.{MAX_BYTES, WIDE_SUPERBLOCKS}
 use Rattle.model_core.specs.Layouts.{is_pattern}
 use Rattle.words_core.specs.declared.answer.TheConstants.{MAX_ANSWER_BYTES, SHORT_ANSWER_BYTES}
 use Rattle.words_core.specs.declared.reply.Addressee.{Addressee}
@@ -75,7 +75,7 @@ reply_of_table (Table.Report tenant report) = record { addressee = Addressee.Ten
 
 -- a table of owners has no more rows than a machine may have superblocks
 abbrev pub HasFewRows : Table → Type 0
-HasFewRows (Table.Owners owners) = length owners.now ≤ MAX_SUPERBLOCKS
+HasFewRows (Table.Owners owners) = length owners.now ≤ WIDE_SUPERBLOCKS
 HasFewRows (Table.Report tenant report) = Unit {0}
 
 -- if the answer has bytes that were read, it has at most 64 of them

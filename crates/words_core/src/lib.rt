@@ -40,4 +40,4 @@ pub use laws::one_case;
 pub use line::{MAX_LINE_BYTES, read_line};
 pub use reply::{Addressee, Body, OWNERS, REFUSALS, Refusal, Reply};
 pub use report::{CACHES, ORDERS, Report};
-pub use text::{MAX_REPLY_BYTES, MAX_ROWS, Table, rows, write_line, write_row};
+pub use text::{MAX_REPLY_BYTES, MAX_ROWS, TABLE_ROWS, Table, rows, write_line, write_row};

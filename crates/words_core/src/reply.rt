@@ -8,7 +8,7 @@ use arrayvec::ArrayVec;
 use model_core::limits::{MAX_BYTES, MAX_SUPERBLOCKS};
 use model_core::owner::Owner;
 
-/// Capacity of a list of the owners of all superblocks.
+/// Capacity of a list of the owners of all superblocks. A machine of more superblocks is listed by a [`Table`](crate::Table).
 pub const OWNERS: usize = MAX_SUPERBLOCKS as usize;
 
 /// The reply to an event or to a faulty line.

@@ -8,11 +8,11 @@ use crate::numbers::MAX_DIGITS;
 use crate::text::MAX_REPLY_BYTES;
 use crate::window::{put_labelled, put_number, put_text};
 use arrayvec::ArrayVec;
-use model_core::limits::{MAX_CACHES, MAX_ORDER};
+use model_core::limits::{MAX_CACHES, WIDE_ORDER};
 use model_core::report::{CacheRow, OrderRow};
 
 /// Capacity of a list with one row for each order that a block may have.
-pub const ORDERS: usize = MAX_ORDER as usize + 1;
+pub const ORDERS: usize = WIDE_ORDER as usize + 1;
 
 /// Capacity of a list with one row for each cache of a tenant.
 pub const CACHES: usize = MAX_CACHES as usize;

@@ -9,14 +9,17 @@ use crate::reply::{Addressee, Body, OWNERS, Reply};
 use crate::report::{Report, put_report};
 use crate::window::{put_labelled, put_text};
 use arrayvec::ArrayVec;
-use model_core::limits::MAX_SUPERBLOCKS;
+use model_core::limits::WIDE_SUPERBLOCKS;
 use model_core::owner::Owner;
 
 /// Size in bytes of a buffer for any line of a reply, including its line feed.
 pub const MAX_REPLY_BYTES: usize = 256;
 
-/// The largest number of lines in a reply. The table of owners has a first line, and then a line for each superblock.
+/// The largest number of lines in a [`Reply`]. The table of owners has a first line, and then a line for each superblock.
 pub const MAX_ROWS: usize = 1 + OWNERS;
+
+/// The largest number of lines in a [`Table`].
+pub const TABLE_ROWS: usize = 1 + WIDE_SUPERBLOCKS as usize;
 
 /// Returns the number of lines of a reply.
 #[tactic(auto, using(crate::proofs::TextLemmas::table_rows))]
@@ -70,7 +73,7 @@ impl Table<'_> {
     pub fn rows(self) -> usize
         requires { HasFewRows self }
         ensures count { result ≡ length (lines_of (reply_of_table self.entry)) }
-        ensures few { result ≤ MAX_ROWS }
+        ensures few { result ≤ TABLE_ROWS }
     {
         match self {
             Table::Owners(owners) => 1 + owners.len(),
@@ -92,7 +95,8 @@ impl Table<'_> {
         put_text(b"\n", at, out)
     }
 
-    fn addressee(self) -> Addressee
+    /// Returns the addressee of this reply.
+    pub fn addressee(self) -> Addressee
         ensures { result ≡ (reply_of_table self.entry).addressee }
     {
         match self {
@@ -138,7 +142,7 @@ fn put_body(body: &Body, row: usize, at: usize, out: &mut [u8]) -> usize
 #[tactic(auto, using(crate::proofs::TextLemmas::table_rows))]
 fn put_owners(owners: &[Option<Owner>], row: usize, at: usize, out: &mut [u8]) -> usize
     requires row { row < length owners.now + 1 }
-    requires few { length owners.now ≤ MAX_SUPERBLOCKS }
+    requires few { length owners.now ≤ WIDE_SUPERBLOCKS }
     requires front { at ≤ MAX_FRONT_BYTES }
     requires space { MAX_REPLY_BYTES ≤ length out.old }
     ensures text { slice_get (pool_texts (take at out.old) owners.now) row ≡ Some (take result out.new) }
