@@ -5,7 +5,7 @@ use Rattle.std.proofs.lemmas.List.Folds.{sum_by-replicate}
 use Rattle.std.proofs.lemmas.Bool.{cases_lt}
 use Rattle.model_core.specs.declared.owner.Owner.{Owner}
 use Rattle.model_core.specs.Owners.{is_of}
-use Rattle.model_core.specs.declared.limits.TheConstants.{MAX_ORDER, MAX_SUPERBLOCKS, MAX_TENANTS, WIDE_FRAMES, FRAME_BYTES}
+use Rattle.model_core.specs.declared.limits.TheConstants.{WIDE_ORDER, WIDE_SUPERBLOCKS, WIDE_TENANTS, WIDE_FRAMES, FRAME_BYTES}
 use Rattle.model_core.proofs.Lists.{everywhere}
 use Rattle.space_core.specs.Content.{IsSpace, empty_space, superblock_at}
 
@@ -23,7 +23,7 @@ count_by-copies : {A : Type 0} (p : A → Bool) (n : ℕ) (x : A) → p x ≡ fa
 count_by-copies p n x fails =
     sum_by-replicate (λ y. cond (p y) 1 0) n x ∙ (ap (λ b. n * cond b 1 0) fails ∙ omega arith)
 
-pub empty_space-IsSpace : (unit n tenants : ℕ) → 0 < unit → unit ≤ FRAME_BYTES * 2 ^ MAX_ORDER → n ≤ MAX_SUPERBLOCKS → tenants ≤ MAX_TENANTS → n * unit ≤ FRAME_BYTES * WIDE_FRAMES → IsSpace (empty_space unit n tenants)
+pub empty_space-IsSpace : (unit n tenants : ℕ) → 0 < unit → unit ≤ FRAME_BYTES * 2 ^ WIDE_ORDER → n ≤ WIDE_SUPERBLOCKS → tenants ≤ WIDE_TENANTS → n * unit ≤ FRAME_BYTES * WIDE_FRAMES → IsSpace (empty_space unit n tenants)
 empty_space-IsSpace unit n tenants some small few short bytes =
     let none : Option ℕ = None in
     let nobody : Option Owner = None in

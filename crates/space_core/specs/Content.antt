@@ -1,6 +1,6 @@
 -- RAM by superblock, the pool, and the mapping between superblocks and the slots of tenants.
 use Rattle.std.specs.Prelude.{◌≡◌, ℕ, ◌*◌, ◌<◌, ◌≤◌, ◌^◌, ◌↔◌, Bool, false, List, [], Option, Some, None, is_some, length, count_by, replicate, slice_index_or}
-use Rattle.model_core.specs.declared.limits.TheConstants.{FRAME_BYTES, MAX_ORDER, MAX_SUPERBLOCKS, MAX_TENANTS, WIDE_FRAMES}
+use Rattle.model_core.specs.declared.limits.TheConstants.{FRAME_BYTES, WIDE_ORDER, WIDE_SUPERBLOCKS, WIDE_TENANTS, WIDE_FRAMES}
 use Rattle.model_core.specs.declared.owner.Owner.{Owner}
 use Rattle.model_core.specs.Owners.{owned_by, is_of}
 
@@ -37,10 +37,10 @@ superblock_at slots t u = slice_index_or (slots_of slots t) u None
 -- what is true of every `Space`
 pub record IsSpace (s : Content) : Type 0 where
   pub some : 0 < s.unit
-  pub small : s.unit ≤ FRAME_BYTES * 2 ^ MAX_ORDER
-  pub few : length s.owners ≤ MAX_SUPERBLOCKS
+  pub small : s.unit ≤ FRAME_BYTES * 2 ^ WIDE_ORDER
+  pub few : length s.owners ≤ WIDE_SUPERBLOCKS
   pub bytes : length s.owners * s.unit ≤ FRAME_BYTES * WIDE_FRAMES
-  pub tenants : length s.slots ≤ MAX_TENANTS
+  pub tenants : length s.slots ≤ WIDE_TENANTS
   pub paired : length s.banks ≡ length s.owners
   pub flagged : length s.marks ≡ length s.owners
   pub rows : (t : ℕ) → t < length s.slots → length (slots_of s.slots t) ≡ length s.owners

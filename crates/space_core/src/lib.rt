@@ -18,7 +18,7 @@ mod vacancy;
 mod windows;
 
 ghost use Rattle.std.specs.Prelude.{◌≡◌, ◌*◌, ◌^◌, ◌≤◌, IfOk};
-ghost use Rattle.model_core.specs.declared.limits.TheConstants.{FRAME_BYTES, MAX_ORDER, MAX_SUPERBLOCKS, MAX_TENANTS, WIDE_FRAMES};
+ghost use Rattle.model_core.specs.declared.limits.TheConstants.{FRAME_BYTES, WIDE_ORDER, WIDE_SUPERBLOCKS, WIDE_TENANTS, WIDE_FRAMES};
 ghost use Rattle.space_core.specs.Content.{empty_space};
 ghost use Rattle.space_core.specs.Tables.{stored_rows};
 ghost use Rattle.space_core.specs.Laws.{SpaceLaws};
@@ -113,9 +113,9 @@ impl Space {
     ///
     /// Allocates all memory that will ever be used. Returns `AllocError` if the allocator refuses it.
     pub fn new(alloc: Global, order: u8, superblocks: u16, tenants: u8) -> Result<Space, AllocError>
-        requires order { order ≤ MAX_ORDER }
-        requires superblocks { superblocks ≤ MAX_SUPERBLOCKS }
-        requires tenants { tenants ≤ MAX_TENANTS }
+        requires order { order ≤ WIDE_ORDER }
+        requires superblocks { superblocks ≤ WIDE_SUPERBLOCKS }
+        requires tenants { tenants ≤ WIDE_TENANTS }
         requires frames { superblocks * 2 ^ order ≤ WIDE_FRAMES }
         ensures { IfOk result (λ s. s ≡ empty_space (FRAME_BYTES * 2 ^ order) superblocks tenants) }
     {

@@ -152,7 +152,7 @@ impl Space {
         self.owners.iter().filter(|owner| owner.is_none()).count() as u16
     }
 
-    /// Returns the number of superblocks, at most `MAX_SUPERBLOCKS`.
+    /// Returns the number of superblocks, at most `WIDE_SUPERBLOCKS`.
     pub fn superblocks(&self) -> u16
         ensures { result ≡ length self.now.owners }
     {
@@ -160,7 +160,7 @@ impl Space {
         self.owners.len() as u16
     }
 
-    /// Returns the number of tenants, at most `MAX_TENANTS`.
+    /// Returns the number of tenants, at most `WIDE_TENANTS`.
     pub fn tenants(&self) -> u8
         ensures { result ≡ length self.now.slots }
     {

@@ -1,7 +1,7 @@
 use Rattle.std.proofs.Common.{◌≡◌, ◌*◌, ◌^◌, ◌≤◌, ◌%◌, ap, refl, sym, ◌∙◌, rules, arith}
 use Rattle.std.proofs.Math.Nat.{pow-le-pow_right}
 use Rattle.std.proofs.lemmas.Nat.{pow_pos, pow-add}
-use Rattle.model_core.specs.declared.limits.TheConstants.{MAX_ORDER}
+use Rattle.model_core.specs.declared.limits.TheConstants.{WIDE_ORDER}
 use Rattle.space_core.specs.Storage.{shown_banks}
 use Rattle.space_core.proofs.EmptySpace.{empty_space-IsSpace}
 use Rattle.space_core.proofs.StoredBytes.{shown-none}
@@ -11,7 +11,7 @@ use Rattle.space_core.proofs.Space.new.Goals as goal
 
 pub invariant_of-result : goal.invariant_of-result
 invariant_of-result c =
-    let most : 2 ^ c.args.order ≤ 2 ^ MAX_ORDER = pow-le-pow_right (omega arith) c.requires.order in
+    let most : 2 ^ c.args.order ≤ 2 ^ WIDE_ORDER = pow-le-pow_right (omega arith) c.requires.order in
     let positive = pow_pos c.args.order in
     let unit = 4096 * 2 ^ c.args.order % 4294967296 in
     let owners = rw c.from.ensures at (c.in_ok-owners.ensures.items_if_clones_equal (λ y same. search rules)) in
@@ -32,7 +32,7 @@ invariant_of-result c =
 
 pub returns : goal.returns
 returns c =
-    let most : 2 ^ c.args.order ≤ 2 ^ MAX_ORDER = pow-le-pow_right (omega arith) c.requires.order in
+    let most : 2 ^ c.args.order ≤ 2 ^ WIDE_ORDER = pow-le-pow_right (omega arith) c.requires.order in
     let unit = 4096 * 2 ^ c.args.order % 4294967296 in
     let owners = rw c.from.ensures at (c.in_ok-owners.ensures.items_if_clones_equal (λ y same. search rules)) in
     let slots = rw (c.from-2.ensures, c.from-3.ensures) at c.in_ok-slots.ensures in
