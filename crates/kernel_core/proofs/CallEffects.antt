@@ -2,7 +2,7 @@
 use Rattle.std.proofs.Common.{◌≡◌, ℕ, ◌^◌, ◌≤◌, false, refl, arith, ◌<◌, Bool, Option, Some, None, length, slice_set, sym, ap, ◌∙◌, ⊎_elim, subst, ◌⊎◌, inl, inr, [], slice_index_or}
 use Rattle.std.proofs.lemmas.Bool.{cases_eq, cases_lt}
 use Rattle.std.proofs.Math.Pow.{pow-lt}
-use Rattle.model_core.specs.declared.limits.TheConstants.{MAX_ORDER}
+use Rattle.model_core.specs.declared.limits.TheConstants.{WIDE_ORDER}
 use Rattle.model_core.specs.declared.owner.Owner.{Owner}
 use Rattle.std.proofs.lemmas.List.{get_or-set_same, get_or-set_other, length-set, get_or_past}
 use Rattle.kernel_core.specs.Content.{mark_after, MarksFollow, KernelContent, Keeps, content_of, PartsAgree, SameSizes}
@@ -113,8 +113,8 @@ has_row r b s t agree known = omega (arith, agree.rows)
 pub no_row : (r : spaces.Content) (b : buddies.Content) (s : tables.Content) (t u : ℕ) → Agree r b s → length b.tenants ≤ t → spaces.superblock_at r.slots t u ≡ None
 no_row r b s t u agree past = ap (λ row. slice_index_or row u None) (get_or_past r.slots t [] (omega (arith, agree.rows)))
 
-order_few : (top : ℕ) → 2 ^ top ≤ 2 ^ MAX_ORDER → top ≤ MAX_ORDER
-order_few top fits = elim (cases_lt MAX_ORDER top) [ inl more ↦ absurd (let larger = pow-lt more in omega (arith, larger)) | inr few ↦ few ]
+order_few : (top : ℕ) → 2 ^ top ≤ 2 ^ WIDE_ORDER → top ≤ WIDE_ORDER
+order_few top fits = elim (cases_lt WIDE_ORDER top) [ inl more ↦ absurd (let larger = pow-lt more in omega (arith, larger)) | inr few ↦ few ]
 
 -- if `HoldTogether` is true of the parts of a kernel, the parts agree
 pub parts_agree : (r : spaces.Content) (b : buddies.Content) (s : tables.Content) → HoldTogether r b s → PartsAgree (content_of r b s)

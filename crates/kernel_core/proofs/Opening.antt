@@ -6,16 +6,16 @@ use Rattle.buddy_core.specs.Content as buddies
 use Rattle.machine_changes.specs.Shows.{Agree}
 use Rattle.machine_changes.proofs.EmptyTenant.{opening_shows}
 use Rattle.kernel_core.specs.Content.{content_of, opening_content, PartsAgree}
-use Rattle.std.proofs.lemmas.Bool.{and_parts, leb-true}
+use Rattle.std.proofs.lemmas.Bool.{and_from, and_parts, leb-true, le-leb}
 use Rattle.std.proofs.lemmas.Option.{slice_get_within, same_Some}
 use Rattle.std.specs.Prelude.{replicate}
 use Rattle.model_core.specs.Machine.{empty_machine}
-use Rattle.model_core.specs.declared.limits.TheConstants.{MIN_ORDER, MAX_ORDER, MAX_SUPERBLOCKS, MAX_TENANTS, WIDE_FRAMES}
+use Rattle.model_core.specs.declared.limits.TheConstants.{MIN_ORDER, MAX_ORDER, MAX_SUPERBLOCKS, MAX_TENANTS, WIDE_ORDER, WIDE_SUPERBLOCKS, WIDE_TENANTS, WIDE_FRAMES}
 use Rattle.world_core.specs.World.{opening_world}
 use Rattle.world_core.proofs.MachineLists.{slice_get-replicate}
 use Rattle.kernel_core.specs.Shows.{ShowsMachine, Shows}
 use Rattle.model_core.specs.declared.config.Config.{Config}
-use Rattle.model_core.specs.Booting.{is_between, is_bootable}
+use Rattle.model_core.specs.Booting.{is_between, is_bootable, is_wide}
 
 pub opening_agrees : (order superblocks tenants : ℕ)
     → Agree (opening_content order superblocks tenants).space (opening_content order superblocks tenants).buddy (opening_content order superblocks tenants).slabs
@@ -54,6 +54,21 @@ few_frames c is =
     let sizes = bootable c is in
     let powers : 2 ^ c.order ≤ 2 ^ MAX_ORDER = pow-le-pow_right {n = 2} (omega arith) sizes.0 in
     omega (arith, mul-le-mul {n₁ = c.superblocks} {m₁ = 2 ^ c.order} sizes.1 powers)
+
+between_more : (low high more n : ℕ) → high ≤ more → is_between low high n ≡ true → is_between low more n ≡ true
+between_more low high more n fits is =
+    let ends = and_parts (nat_le low n) (nat_le n high) is in
+    and_from (nat_le low n) (nat_le n more) ends.0 (le-leb n more (omega (arith, leb-true n high ends.1, fits)))
+
+-- a bootable configuration is wide
+pub bootable_is_wide : (c : Config) → is_bootable c ≡ true → is_wide c ≡ true
+bootable_is_wide c is =
+    let first = and_parts (is_between MIN_ORDER MAX_ORDER c.order) (is_between 1 MAX_SUPERBLOCKS c.superblocks && is_between 1 MAX_TENANTS c.tenants) is in
+    let second = and_parts (is_between 1 MAX_SUPERBLOCKS c.superblocks) (is_between 1 MAX_TENANTS c.tenants) first.1 in
+    let few = le-leb (c.superblocks * 2 ^ c.order) WIDE_FRAMES (few_frames c is) in
+    let tenants = and_from (is_between 1 WIDE_TENANTS c.tenants) (nat_le (c.superblocks * 2 ^ c.order) WIDE_FRAMES) (between_more 1 MAX_TENANTS WIDE_TENANTS c.tenants (omega arith) second.1) few in
+    and_from (is_between MIN_ORDER WIDE_ORDER c.order) _ (between_more MIN_ORDER MAX_ORDER WIDE_ORDER c.order (omega arith) first.0)
+    (and_from (is_between 1 WIDE_SUPERBLOCKS c.superblocks) _ (between_more 1 MAX_SUPERBLOCKS WIDE_SUPERBLOCKS c.superblocks (omega arith) second.0) tenants)
 
 pub opening_world_shown : (order superblocks tenants : ℕ) → PartsAgree (opening_content order superblocks tenants)
     → Shows (opening_content order superblocks tenants) (opening_world superblocks tenants)

@@ -13,10 +13,10 @@ use Rattle.kernel_core.proofs.Opening.{opening_world_shown}
 opening_agrees : (superblocks tenants : ℕ) → superblocks ≤ MAX_SUPERBLOCKS → tenants ≤ MAX_TENANTS → PartsAgree (opening_content 3 superblocks tenants)
 unfolding opening_content
 opening_agrees superblocks tenants few many = record {
-  space = empty_space-IsSpace _ superblocks tenants (omega arith) (omega arith) few many (omega arith);
+  space = empty_space-IsSpace _ superblocks tenants (omega arith) (omega arith) (omega (arith, few)) (omega (arith, many)) (omega arith);
   order = omega arith;
-  few = few;
-  tenants = many;
+  few = omega (arith, few);
+  tenants = omega (arith, many);
   top = refl;
   sheets = refl;
   holdings = length-replicate tenants _;

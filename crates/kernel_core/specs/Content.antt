@@ -1,7 +1,7 @@
 -- The parts of a kernel: the memory with its pool, the buddy systems of all tenants, and the tables of their caches.
 use Rattle.std.specs.Prelude.{◌≡◌, ℕ, ◌*◌, ◌^◌, ◌≤◌, Bool, true, false, Option, Some, None, List, length}
 use Rattle.model_core.specs.declared.owner.Owner.{Owner}
-use Rattle.model_core.specs.declared.limits.TheConstants.{FRAME_BYTES, MAX_ORDER, MAX_SUPERBLOCKS, MAX_TENANTS}
+use Rattle.model_core.specs.declared.limits.TheConstants.{FRAME_BYTES, WIDE_ORDER, WIDE_SUPERBLOCKS, WIDE_TENANTS}
 use Rattle.space_core.specs.Content as spaces
 use Rattle.buddy_core.specs.Content as buddies
 use Rattle.slab_tables.specs.Content as tables
@@ -42,9 +42,9 @@ superblock_bytes k m = spaces.bank k.space.banks m
 -- tenant.
 pub record PartsAgree (k : KernelContent) : Type 0 where
   pub space : spaces.IsSpace k.space
-  pub order : k.order ≤ MAX_ORDER
-  pub few : k.superblocks ≤ MAX_SUPERBLOCKS
-  pub tenants : k.tenants ≤ MAX_TENANTS
+  pub order : k.order ≤ WIDE_ORDER
+  pub few : k.superblocks ≤ WIDE_SUPERBLOCKS
+  pub tenants : k.tenants ≤ WIDE_TENANTS
   pub top : k.buddy.top ≡ k.order
   pub sheets : k.buddy.superblocks ≡ k.superblocks
   pub holdings : length k.buddy.tenants ≡ k.tenants

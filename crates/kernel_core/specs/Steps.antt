@@ -1,5 +1,7 @@
 -- What an event does to a kernel, and what a tenant's command does to the tenant's part of the kernel.
-use Rattle.std.specs.Prelude.{◌≡◌, ℕ, true, false, Result, Ok, Err}
+use Rattle.std.specs.Prelude.{◌≡◌, ℕ, ◌≤◌, true, false, Result, Ok, Err}
+use Rattle.model_core.specs.declared.limits.TheConstants.{MAX_SUPERBLOCKS}
+use Rattle.words_core.specs.declared.event.AdminCommand.{AdminCommand}
 use Rattle.words_core.specs.declared.reply.Addressee.{Addressee}
 use Rattle.words_core.specs.declared.answer.Answer.{Answer}
 use Rattle.words_core.specs.declared.reply.Body.{Body}
@@ -22,6 +24,15 @@ use Rattle.kernel_core.specs.Shows.{Shows}
 abbrev pub HasPattern : Event → Type 0
 HasPattern (Event.Tenant t command) = AsksPattern command
 HasPattern (Event.Admin command) = Unit {0}
+
+-- if the event requests the table of owners, the machine has no more superblocks than a reply can list
+abbrev pub FitsReply : KernelContent → Event → Type 0
+FitsReply k (Event.Admin AdminCommand.Pool) = k.superblocks ≤ MAX_SUPERBLOCKS
+FitsReply k (Event.Admin (AdminCommand.Grant t)) = Unit {0}
+FitsReply k (Event.Admin (AdminCommand.TakeBack t slot)) = Unit {0}
+FitsReply k (Event.Admin (AdminCommand.Reset t)) = Unit {0}
+FitsReply k (Event.Admin (AdminCommand.Move t slot)) = Unit {0}
+FitsReply k (Event.Tenant t command) = Unit {0}
 
 -- The event, with this reply, is the step of every world that the parts show. If the event is refused, nothing changes. A tenant
 -- that the event does not name keeps everything.

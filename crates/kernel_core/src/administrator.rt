@@ -7,7 +7,7 @@ ghost use Rattle.words_core.specs.declared.event.Event.TheVariants as On;
 ghost use Rattle.words_core.specs.declared.event.AdminCommand.TheVariants as Do;
 ghost use Rattle.words_core.specs.declared.reply.Addressee.TheVariants.{Admin};
 ghost use Rattle.words_core.specs.declared.reply.Body.TheVariants as Say;
-ghost use Rattle.model_core.specs.declared.limits.TheConstants.{MAX_SUPERBLOCKS};
+ghost use Rattle.model_core.specs.declared.limits.TheConstants.{MAX_SUPERBLOCKS, WIDE_SUPERBLOCKS};
 ghost use Rattle.kernel_core.specs.Content.{PartsAgree};
 ghost use Rattle.kernel_core.specs.Steps.{Steps, to_admin};
 ghost use Rattle.kernel_core.specs.GivenUp.{GivesUp};
@@ -121,9 +121,12 @@ impl Kernel {
     }
 
     /// Returns the reply to the event `pool`, with the table of owners. [`Kernel::step`] returns the same reply for that event.
+    ///
+    /// A reply can list at most 256 superblocks. [`Kernel::owners`] lends the owners of any machine.
     #[cold]
     #[inline(never)]
     pub fn pool(&self) -> Reply
+        requires { self.now.superblocks ≤ MAX_SUPERBLOCKS }
         ensures { Steps self.now (On.Admin Do.Pool) self.now result }
     {
         Reply {
@@ -136,9 +139,10 @@ impl Kernel {
     pub fn owners(&self) -> &[Option<Owner>]
         ensures steps { Steps self.now (On.Admin Do.Pool) self.now
             (record { addressee = Admin; body = Say.Owners (record { items = result.now }) }) }
-        ensures few { length result.now ≤ MAX_SUPERBLOCKS }
+        ensures rows { length result.now ≡ self.now.superblocks }
+        ensures few { length result.now ≤ WIDE_SUPERBLOCKS }
     {
-        self.space.laws();
+        self.laws();
         self.space.owners()
     }
 }

@@ -1,7 +1,7 @@
 //! The kernel, and the functions that run events, requests and the administrator's commands.
 
 ghost use Rattle.std.specs.Prelude.{◌≡◌, ◌↔◌, ℕ, ◌*◌, ◌^◌, ◌<◌, ◌≤◌, IfOk, IfSome, true, false};
-ghost use Rattle.model_core.specs.declared.limits.TheConstants.{MAX_ORDER, MAX_SUPERBLOCKS, MAX_TENANTS, WIDE_FRAMES};
+ghost use Rattle.model_core.specs.declared.limits.TheConstants.{MAX_SUPERBLOCKS, WIDE_ORDER, WIDE_SUPERBLOCKS, WIDE_TENANTS, WIDE_FRAMES};
 ghost use Rattle.words_core.specs.declared.event.Command.TheVariants as Command;
 ghost use Rattle.world_core.specs.Limits.{cache_limit};
 ghost use Rattle.world_core.specs.World.{World, opening_world, world_step};
@@ -51,14 +51,14 @@ impl Model for Kernel {
 
 impl Kernel {
     ghost use Rattle.std.specs.Prelude.{MatchOption};
-    ghost use Rattle.model_core.specs.Booting.{is_bootable};
+    ghost use Rattle.model_core.specs.Booting.{is_bootable, is_wide};
     ghost use Rattle.world_core.specs.OwnList.{is_refused};
     ghost use Rattle.kernel_core.specs.Content.{SameSizes, MarksFollow, opening_content, Keeps};
     ghost use Rattle.space_core.specs.Laws.{SpareStays};
     ghost use Rattle.kernel_core.specs.Records.{RecordsStand};
     ghost use Rattle.kernel_core.specs.Shows.{Shows};
     ghost use Rattle.world_core.specs.Locks.{is_named};
-    ghost use Rattle.kernel_core.specs.Steps.{HasPattern, Steps};
+    ghost use Rattle.kernel_core.specs.Steps.{FitsReply, HasPattern, Steps};
     ghost use Rattle.words_core.specs.Requests.{command_of, reply_to, HasFewBytes, IsAskable, asks_bytes, has_bytes};
     ghost use Rattle.words_core.specs.declared.event.AdminCommand.TheVariants as AdminCommand;
     ghost use Rattle.words_core.specs.declared.reply.Addressee.TheVariants.{Admin};
@@ -77,6 +77,22 @@ impl Kernel {
         if !config.is_bootable() {
             return Err(BootError::BadConfig);
         }
+        Kernel::boot_wide(alloc, config)
+    }
+
+    /// Does what [`Kernel::boot`] does, also for larger machines: of up to 4,096 superblocks of orders up to 10, for up to 255
+    /// tenants, with up to 4 GiB of memory.
+    ///
+    /// Returns `BadConfig` if [`Config::is_wide`] is false of the configuration, before anything is allocated. Returns `Memory`
+    /// only if an allocation was refused. No later call allocates.
+    pub fn boot_wide(alloc: Global, config: Config) -> Result<Kernel, BootError>
+        ensures config { (result ≡ Err BootError.BadConfig) ↔ (is_wide config ≡ false) }
+        ensures parts { IfOk result (λ k. k ≡ opening_content config.order config.superblocks config.tenants) }
+        ensures shows { IfOk result (λ k. Shows k (opening_world config.superblocks config.tenants)) }
+    {
+        if !config.is_wide() {
+            return Err(BootError::BadConfig);
+        }
         let order = config.order as u8;
         let superblocks = config.superblocks as u16;
         let tenants = config.tenants as u8;
@@ -89,9 +105,9 @@ impl Kernel {
 
     /// Boots a machine whose sizes are within the limits.
     fn new(alloc: Global, order: u8, superblocks: u16, tenants: u8) -> Result<Kernel, AllocError>
-        requires order { order ≤ MAX_ORDER }
-        requires superblocks { superblocks ≤ MAX_SUPERBLOCKS }
-        requires tenants { tenants ≤ MAX_TENANTS }
+        requires order { order ≤ WIDE_ORDER }
+        requires superblocks { superblocks ≤ WIDE_SUPERBLOCKS }
+        requires tenants { tenants ≤ WIDE_TENANTS }
         requires frames { superblocks * 2 ^ order ≤ WIDE_FRAMES }
         ensures { IfOk result (λ k. k ≡ opening_content order superblocks tenants) }
     {
@@ -107,9 +123,12 @@ impl Kernel {
 
     /// Runs one event and returns the reply. A refused event changes nothing.
     ///
-    /// The pattern of a `cache` command must have at least one byte, as every pattern that `read_line` returns does.
+    /// The pattern of a `cache` command must have at least one byte, as every pattern that `read_line` returns does. The event
+    /// `pool` must go to a machine of at most 256 superblocks, as every machine is that [`Kernel::boot`] returns: a [`Reply`] can
+    /// list no more. [`Kernel::owners`] lends the owners of any machine.
     pub fn step(&mut self, event: &Event) -> Reply
         requires pattern { HasPattern event.now }
+        requires fits { FitsReply self.old event.now }
         ensures sizes { SameSizes self.old self.new }
 
         // The event is a step of each world that the kernel shows.
@@ -137,7 +156,8 @@ impl Kernel {
 
     /// Runs one event and returns the reply.
     fn run_event(&mut self, event: &Event) -> Reply
-        requires { HasPattern event.now }
+        requires pattern { HasPattern event.now }
+        requires fits { FitsReply self.old event.now }
         ensures { Steps self.old event.now self.new result }
     {
         match event {
@@ -168,6 +188,7 @@ impl Kernel {
 
     /// Runs a command of the administrator. A reply with the table of owners has its own copy of the table.
     fn reply_to_admin(&mut self, command: &AdminCommand) -> Reply
+        requires { FitsReply self.old (Event.Admin command.now) }
         ensures { Steps self.old (Event.Admin command.now) self.new result }
     {
         match self.administer(command) {
@@ -182,7 +203,8 @@ impl Kernel {
     /// Runs any command of the administrator except `pool`. Does the same as [`Kernel::step`] with that event, but returns the
     /// answer to the administrator as a small value.
     ///
-    /// Returns `None` and does nothing if the table of owners is requested. [`Kernel::pool`] returns the reply with that table.
+    /// Returns `None` and does nothing if the table of owners is requested. [`Kernel::owners`] lends that table, and
+    /// [`Kernel::pool`] returns the reply with it.
     #[cold]
     #[inline(never)]
     pub fn administer(&mut self, command: &AdminCommand) -> Option<Answer<'static>>

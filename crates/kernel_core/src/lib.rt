@@ -22,7 +22,8 @@
 //! ```
 //!
 //! A crate that calls the kernel like this has the line `NAME: kernel_core words_core` in `crates.txt`. `step` requires that the
-//! pattern of a `cache` command has at least one byte. It requires nothing of other commands.
+//! pattern of a `cache` command has at least one byte, and that a `pool` goes to a machine of at most 256 superblocks, as every
+//! machine is that [`Kernel::boot`] returns. It requires nothing of other commands.
 #![tactic(auto)]
 
 mod administrator;

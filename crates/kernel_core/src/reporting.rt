@@ -16,7 +16,7 @@ ghost use Rattle.words_core.specs.declared.reply.Body.TheVariants as Say;
 use crate::Kernel;
 use arrayvec::ArrayVec;
 use buddy_core::Buddy;
-use model_core::limits::MAX_ORDER;
+use model_core::limits::WIDE_ORDER;
 use model_core::report::OrderRow;
 use words_core::{ORDERS, Report};
 
@@ -91,9 +91,9 @@ impl Kernel {
 fn orders_of(buddy: &Buddy, t: u8) -> Blocks
     requires tenant { t < length buddy.now.tenants }
     requires fit { AreWithin buddy.now t }
-    requires small { buddy.now.top ≤ MAX_ORDER }
+    requires small { buddy.now.top ≤ WIDE_ORDER }
     ensures live { result.live ≡ frames_below (holding_of t buddy.now) (buddy.now.top + 1) }
-    ensures short { IfSome result.top (λ k. k ≤ MAX_ORDER) }
+    ensures short { IfSome result.top (λ k. k ≤ WIDE_ORDER) }
     ensures orders { (m : Machine) → HasFigures buddy.now t m → result.orders.items ≡ order_rows buddy.now.top m (buddy.now.top + 1) }
     ensures top { (m : Machine) → HasFigures buddy.now t m → result.top ≡ greatest (free_count buddy.now.top m) (buddy.now.top + 1) }
 {
@@ -118,7 +118,7 @@ fn orders_of(buddy: &Buddy, t: u8) -> Blocks
 /// block, or `None` if no block is free. Returns 0 if no block is free.
 fn split_share(free: u32, top: Option<u8>) -> u32
     requires free { IfSome top (λ k. 0 < free) }
-    requires order { IfSome top (λ k. k ≤ MAX_ORDER) }
+    requires order { IfSome top (λ k. k ≤ WIDE_ORDER) }
     ensures { result ≡ share free top }
 {
     let Some(order) = top else {

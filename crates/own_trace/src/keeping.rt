@@ -18,7 +18,7 @@ ghost use Rattle.own_trace.specs.Keeping.{KeepsOwn, NamesEnd, keeps};
 use crate::quick::keep_ended_lines;
 use kernel_core::Kernel;
 use quick_core::{CR_LF, LF};
-use replay_core::{Drain, EndFailed, Feed, Sink, Stopped, do_lines, push_all, reply_in_rows};
+use replay_core::{Drain, EndFailed, Feed, Sink, Stopped, do_lines, push_all};
 use thiserror::Error;
 use words_core::{Addressee, AdminCommand, Answer, Body, Event, LineFault, Reply};
 
@@ -144,7 +144,14 @@ impl Sink for OwnLines {
         kernel: &Kernel,
         drain: &mut D,
     ) -> Result<(), Stopped> {
-        let refused = is_refused_by(&reply_in_rows(kernel, event));
+        let refused = match event {
+            Event::Tenant(tenant, _) => is_refused_by(&kernel.report(*tenant)),
+            Event::Admin(_) => {
+                // For the proof: the reply is the table of owners.
+                let _owners = kernel.owners();
+                false
+            }
+        };
         self.keep_event(line, event, refused, drain)
     }
 

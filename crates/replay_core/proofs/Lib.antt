@@ -5,5 +5,6 @@ pub mod PendingLemmas
 pub mod PromiseLemmas
 pub mod PushLemmas
 pub mod QuickLemmas
+pub mod RowLemmas
 pub mod RunLemmas
 pub mod RunnableLemmas

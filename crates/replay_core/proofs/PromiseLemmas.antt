@@ -1,12 +1,12 @@
 -- The replies whose text the drain takes keep the promises.
-use Rattle.std.proofs.Common.{◌≡◌, ℕ, ◌*◌, ◌^◌, ◌≤◌, Bool, List, [], ◌∷◌, ◌++◌, length, Option, None, Err, ap, sym, subst, ◌∙◌}
+use Rattle.std.proofs.Common.{◌≡◌, ℕ, ◌*◌, ◌^◌, ◌≤◌, Bool, List, [], ◌∷◌, ◌++◌, length, Option, None, Err, ap, sym, subst, ◌∙◌, arith}
 use Rattle.std.proofs.lemmas.List.{length-replicate}
-use Rattle.model_core.specs.declared.limits.TheConstants.{MAX_SUPERBLOCKS}
+use Rattle.model_core.specs.declared.limits.TheConstants.{FRAME_BYTES, WIDE_FRAMES}
 use Rattle.world_core.specs.Limits.{cache_limit}
 use Rattle.world_core.specs.World.{World, opening_world}
 use Rattle.world_core.specs.Output.{shown_lines}
 use Rattle.promise_kept.specs.Written.{IsAllowedText}
-use Rattle.promise_kept.proofs.WrittenReplies.{ram_is_small, shown_is_allowed}
+use Rattle.promise_kept.proofs.WrittenReplies.{shown_is_allowed}
 use Rattle.kernel_core.specs.Content.{KernelContent}
 use Rattle.kernel_core.specs.Shows.{Shows}
 use Rattle.streams.specs.declared.tally.Tally.{Tally}
@@ -18,8 +18,12 @@ use Rattle.replay_core.specs.Promised.{IsAllowedOutput, BeginsAllowed, TakesAllo
 ram_shown : (k : KernelContent) (superblocks tenants : ℕ) → Shows k (opening_world superblocks tenants) → superblocks * 2 ^ k.order * 4096 ≤ 2 ^ 32
 unfolding opening_world
 ram_shown k superblocks tenants shows =
-    ram_is_small k.order superblocks shows.agree.order
-    (subst (λ n. n ≤ MAX_SUPERBLOCKS) (sym (ap length shows.owners) ∙ length-replicate superblocks None) shows.agree.space.few)
+    let agree = shows.agree in
+    let owners : length k.space.owners ≡ superblocks = sym (ap length shows.owners) ∙ length-replicate superblocks None in
+    let unit : k.space.unit ≡ FRAME_BYTES * 2 ^ k.order = agree.agree.unit ∙ ap (λ n. FRAME_BYTES * 2 ^ n) (sym agree.agree.order ∙ agree.top) in
+    let bytes : superblocks * (FRAME_BYTES * 2 ^ k.order) ≤ FRAME_BYTES * WIDE_FRAMES = rw (owners, unit) at agree.space.bytes in
+    let apart : superblocks * (FRAME_BYTES * 2 ^ k.order) ≡ superblocks * 2 ^ k.order * 4096 = omega arith in
+    omega (arith, bytes, apart)
 
 shown_allowed : (only : Option ℕ) (before : KernelContent) (lines : List (List ℕ)) (superblocks tenants : ℕ) → Shows before (opening_world superblocks tenants) → 3 ≤ before.order
     → IsAllowedText only cache_limit before.order superblocks tenants lines (shown_lines only cache_limit before.order lines (opening_world superblocks tenants))

@@ -1,5 +1,5 @@
 -- If a replay has run some lines and then processes the next line, it has run these lines and this line.
-use Rattle.std.proofs.Common.{◌≡◌, ℕ, suc, ◌+◌, Bool, List, [], ◌∷◌, ◌++◌, Result, Ok, Err, Option, Some, None, length, take, refl, ap, sym, subst, ◌∙◌, arith, append_assoc, length-append}
+use Rattle.std.proofs.Common.{◌≡◌, ℕ, suc, ◌+◌, Bool, true, false, if◌then◌else◌, List, [], ◌∷◌, ◌++◌, Result, Ok, Err, Option, Some, None, length, take, refl, ap, sym, subst, ◌∙◌, arith, append_assoc, length-append}
 use Rattle.std.proofs.lemmas.List.{append-nil}
 use Rattle.words_core.specs.declared.event.Event.{Event}
 use Rattle.words_core.specs.declared.event.LineFault.{LineFault}
@@ -93,6 +93,11 @@ shown_here only before now xs line text stands shown w before_shows =
 pub reading_of_nothing : reading_of [] ≡ Ok None
 unfolding reading_of reading_of_words words_of
 reading_of_nothing = refl
+
+-- a reply that is no refusal leaves the notes unchanged, whether it is shown or not
+pub noted_same : {N : Type 0} (shown : Bool) (n : N) → (if shown then n else n) ≡ n
+noted_same true n = refl
+noted_same false n = refl
 
 module _ {N : Type 0} (noting : Noting N) where
   noted_more : (only : Option ℕ) (limit order number : ℕ) (xs : List (List ℕ)) (line : List ℕ) (w : World) (n : N)

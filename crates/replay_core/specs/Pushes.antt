@@ -1,13 +1,13 @@
 -- A drain takes all bytes of a text, or only a prefix of them if it fails. The bytes taken are counted.
 use Rattle.std.specs.Prelude.{◌≡◌, ℕ, ◌+◌, ◌*◌, ◌^◌, ◌<◌, Bool, false, List, [], ◌++◌, length, Option, Result, MatchResult, is_err}
 use Rattle.std.specs.Io.KnownBytes.{Appends}
-use Rattle.words_core.specs.declared.text.TheConstants.{MAX_ROWS, MAX_REPLY_BYTES}
+use Rattle.words_core.specs.declared.text.TheConstants.{TABLE_ROWS, MAX_REPLY_BYTES}
 use Rattle.streams.specs.declared.feed.Stopped.{Stopped}
 
 -- an upper bound on the number of bytes in a reply: no reply has more lines than the table of owners, and a line has at most 256
 -- bytes
 abbrev pub most_reply_bytes : ℕ
-most_reply_bytes = MAX_ROWS * MAX_REPLY_BYTES
+most_reply_bytes = TABLE_ROWS * MAX_REPLY_BYTES
 
 -- `rest` is empty if the result is Ok, and not empty if the drain failed
 abbrev pub IsWholeAtOk : Result (Unit {0}) Stopped → List ℕ → Type 0

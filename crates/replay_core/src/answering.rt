@@ -4,16 +4,15 @@ ghost use Rattle.std.specs.Prelude.{◌≡◌, ℕ, ◌+◌, ◌<◌, ◌≤◌,
 ghost use Rattle.words_core.specs.Grammar.{reading_of};
 ghost use Rattle.words_core.specs.Requests.{command_of, IsAskable};
 ghost use Rattle.words_core.specs.declared.event.Event.TheVariants.{Tenant};
-ghost use Rattle.kernel_core.specs.Steps.{HasPattern, Steps};
+ghost use Rattle.kernel_core.specs.Steps.{HasPattern};
 ghost use Rattle.replay_core.specs.Doing.{HasDone};
 ghost use Rattle.replay_core.specs.Pending.{IsFrontOf};
-ghost use Rattle.replay_core.specs.Rows.{HasRows};
 ghost use Rattle.replay_core.specs.Standing.{IsRunnable};
 
 use crate::sink::Sink;
 use kernel_core::Kernel;
 use streams::{Drain, Stopped};
-use words_core::{Addressee, Answer, Event, LineFault, Refusal, Reply, Request};
+use words_core::{Addressee, Answer, Event, LineFault, Refusal, Request};
 
 /// Runs a line that was read as `reading`, and passes it with its answer to the sink. `front` is the line, or its beginning if it
 /// is too long.
@@ -99,16 +98,5 @@ fn ask<S: Sink, D: Drain>(
             let answer = Answer::Refused(Refusal::NoTenant);
             sink.answered(line, event, Addressee::Nobody, answer, drain)
         }
-    }
-}
-
-/// Returns the reply to an event that changes nothing and has a reply of several lines: a report, or the table of owners.
-pub fn reply_in_rows(kernel: &Kernel, event: &Event) -> Reply
-    requires { HasRows event.now }
-    ensures { Steps kernel.now event.now kernel.now result }
-{
-    match event {
-        Event::Tenant(tenant, _) => kernel.report(*tenant),
-        Event::Admin(_) => kernel.pool(),
     }
 }

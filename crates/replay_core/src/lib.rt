@@ -28,7 +28,6 @@ mod replies;
 mod run;
 mod sink;
 
-pub use answering::reply_in_rows;
 pub use engine::{EndFailed, do_lines};
 pub use notes::{NoNotes, Notes};
 pub use pending::Pending;

@@ -4,7 +4,7 @@ ghost use Rattle.std.specs.Prelude.{◌≡◌, take};
 ghost use Rattle.words_core.specs.Requests.{body_of_answer};
 ghost use Rattle.replay_core.specs.Noting.{Noting, noted_body};
 
-use words_core::{Answer, Body, LineFault, Refusal};
+use words_core::{Answer, LineFault, Refusal};
 
 /// Notes of a replay: the refusals that are shown, and the faulty lines. They have no effect on the replies.
 pub trait Notes: Default + Drop {
@@ -29,15 +29,6 @@ pub(crate) fn note_answer<N: Notes>(answer: Answer<'_>, notes: &mut N)
 {
     if let Answer::Refused(refusal) = answer {
         notes.refused(refusal);
-    }
-}
-
-/// Notes a shown reply if it is a refusal.
-pub(crate) fn note_body<N: Notes>(body: &Body, notes: &mut N)
-    ensures { notes.new ≡ noted_body N.noting body.now notes.old }
-{
-    if let Body::Refused(refusal) = body {
-        notes.refused(*refusal);
     }
 }
 

@@ -2,18 +2,17 @@
 
 ghost use Rattle.std.specs.Prelude.{◌≡◌, ◌+◌, ◌≤◌, true, Ok, length};
 ghost use Rattle.words_core.specs.declared.reply.Addressee.TheVariants as To;
-ghost use Rattle.words_core.specs.Requests.{reply_of_answer, reply_to, HasFewBytes};
+ghost use Rattle.words_core.specs.Requests.{reply_of_answer, reply_of_table, reply_to, HasFewBytes, HasFewRows};
 ghost use Rattle.world_core.specs.Output.{is_shown, shown_text};
 ghost use Rattle.replay_core.specs.Pushes.{CanWrite, HasPushed, most_reply_bytes};
 ghost use Rattle.replay_core.specs.Shown.{HasShown};
 ghost use Rattle.replay_core.specs.Noting.{noted_reply};
 
-use crate::notes::{Notes, note_answer, note_body};
+use crate::notes::{Notes, note_answer};
 use std::marker::Model;
 use streams::{Drain, Stopped, TEXT_BYTES, Text};
 use words_core::{
-    Addressee, Answer, MAX_ANSWER_BYTES, MAX_REPLY_BYTES, Reply, rows, write_answer,
-    write_answer_to, write_row,
+    Addressee, Answer, MAX_ANSWER_BYTES, MAX_REPLY_BYTES, Table, write_answer, write_answer_to,
 };
 
 /// The replies of a replay. Shows all replies or only those to one tenant, and counts the bytes that the drain took.
@@ -84,28 +83,22 @@ impl Replies {
         push_all(&text[..len], drain, &mut self.written)
     }
 
-    /// Notes a reply if it is a refusal, and pushes it line by line. Does nothing if the reply is not shown. Not inlined, because
-    /// its lines need stack space that no other answer needs.
+    /// Pushes a table line by line. Does nothing if the table is not shown. Not inlined, because its lines need stack space that
+    /// no other answer needs.
     #[cold]
     #[inline(never)]
-    pub fn show<D: Drain, N: Notes>(
-        &mut self,
-        reply: &Reply,
-        drain: &mut D,
-        notes: &mut N,
-    ) -> Result<(), Stopped>
-        requires { CanWrite (D.has_failed drain.old) self.old.written most_reply_bytes }
-        ensures shown { HasShown (D.contents drain.old) (D.contents drain.new) (D.has_failed drain.new)
-            (shown_text self.old.only reply.now) self.old self.new result }
-        ensures noted { notes.new ≡ noted_reply N.noting self.old.only reply.now notes.old }
+    pub fn show_table<D: Drain>(&mut self, table: Table<'_>, drain: &mut D) -> Result<(), Stopped>
+        requires rows { HasFewRows table }
+        requires can_write { CanWrite (D.has_failed drain.old) self.old.written most_reply_bytes }
+        ensures { HasShown (D.contents drain.old) (D.contents drain.new) (D.has_failed drain.new)
+            (shown_text self.old.only (reply_of_table table.entry)) self.old self.new result }
     {
-        if !self.is_shown(reply.addressee) {
+        if !self.is_shown(table.addressee()) {
             return Ok(());
         }
-        note_body(&reply.body, notes);
         let mut text = [0; MAX_REPLY_BYTES];
-        for row in 0..rows(reply) {
-            let len = write_row(reply, row, &mut text);
+        for row in 0..table.rows() {
+            let len = table.write_row(row, &mut text);
             push_all(&text[..len], drain, &mut self.written)?;
         }
         Ok(())

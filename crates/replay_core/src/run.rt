@@ -1,16 +1,15 @@
 //! The sink of a replay: counts lines and shows their answers.
 
-ghost use Rattle.std.specs.Prelude.{◌≡◌};
+ghost use Rattle.std.specs.Prelude.{◌≡◌, ◌<◌, List, false, is_err, Some, Ok};
 ghost use Rattle.replay_core.specs.Bounds.{IsWithinLines};
 
-use crate::answering::reply_in_rows;
 use crate::notes::Notes;
 use crate::replies::Replies;
 use crate::sink::Sink;
 use kernel_core::Kernel;
 use quick_core::{CR_LF, LF};
 use streams::{Drain, Stopped, Tally};
-use words_core::{Addressee, Answer, Event, LineFault};
+use words_core::{Addressee, Answer, Event, LineFault, Refusal, Table};
 
 /// The state of a replay between two lines: the counts of a [`Tally`], the replies, and the notes.
 #[derive(Debug, Drop)]
@@ -99,7 +98,7 @@ impl<N: Notes> Sink for Run<N> {
             .show_to(addressee, answer, drain, &mut self.notes)
     }
 
-    // Not inlined: only a reply of several lines needs 1.5 KB of stack, and a function clears its whole stack frame on entry.
+    // Not inlined: only a report needs this much stack, and a function clears its whole stack frame on entry.
     #[cold]
     #[inline(never)]
     fn replied<D: Drain>(
@@ -111,8 +110,22 @@ impl<N: Notes> Sink for Run<N> {
     ) -> Result<(), Stopped> {
         self.lines += 1;
         self.events += 1;
-        self.replies
-            .show(&reply_in_rows(kernel, event), drain, &mut self.notes)
+        let Event::Tenant(tenant, _) = event else {
+            return self
+                .replies
+                .show_table(Table::Owners(kernel.owners()), drain);
+        };
+        match kernel.tenant(*tenant) {
+            Some(t) => self
+                .replies
+                .show_table(Table::Report(t, &kernel.figures(t)), drain),
+            None => self.replies.show_to(
+                Addressee::Nobody,
+                Answer::Refused(Refusal::NoTenant),
+                drain,
+                &mut self.notes,
+            ),
+        }
     }
 
     fn faulty<D: Drain>(

@@ -64,7 +64,7 @@ pub trait Sink {
         ensures left { lines_left self.old ≤ lines_left self.new + 1 }
         ensures failed { D.has_failed drain.new ≡ is_err result };
 
-    /// Processes a line whose event changes nothing and has a reply of several lines. Call [`reply_in_rows`] for the reply.
+    /// Processes a line whose event changes nothing and has a reply of several lines: a report, or the table of owners.
     fn replied<D: Drain>(
         &mut self,
         line: &[u8],

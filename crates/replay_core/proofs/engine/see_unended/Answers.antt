@@ -1,4 +1,3 @@
-use Rattle.std.proofs.Common.{◌++◌}
 use Rattle.replay_core.proofs.DoingLemmas.{has_left}
 use Rattle.replay_core.proofs.PendingLemmas.{held_front}
 use Rattle.replay_core.proofs.PushLemmas.{some_left}

@@ -1,7 +1,7 @@
 use Rattle.std.proofs.Common.{subst}
 use Rattle.kernel_core.specs.Content.{PartsAgree}
 use Rattle.kernel_core.proofs.Opening.{opening_world_shown}
-use Rattle.kernel_core.proofs.kernel.Kernel.boot.Goals as goal
+use Rattle.kernel_core.proofs.kernel.Kernel.boot_wide.Goals as goal
 
 pub returns-clause-shows : goal.returns-clause-shows
 returns-clause-shows c = rw c.in-Ok.ensures
