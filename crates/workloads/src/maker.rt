@@ -421,9 +421,7 @@ impl Maker {
                 !matches!(told, Told::Refused)
             }
             None => {
-                if let Body::Owners(owners) = self.kernel.pool().body {
-                    self.digest.add(owners.len() as u64);
-                }
+                self.digest.add(self.kernel.owners().len() as u64);
                 true
             }
         }
