@@ -1,12 +1,13 @@
 -- The values drawn beside and below the rows of a tenant's band: its figures, its free frames by the order of their blocks, and
 -- its refusals.
 use Rattle.std.specs.Prelude.{ℕ, zero, suc, ◌+◌, ◌-◌, ◌*◌, ◌^◌, List, replicate, slice_get, slice_index, slice_index_or, Option, Some, None}
+use Rattle.frame_picture.specs.declared.history.TheConstants.{ORDERS}
 use Rattle.frame_picture.specs.declared.history.Column.{Column}
 use Rattle.frame_picture.specs.declared.history.Figures.{Figures}
 
 -- the figures of a tenant that holds no frame
 abbrev pub empty_figures : Figures
-empty_figures = record { held = 0; taken = 0; free = replicate 9 0 }
+empty_figures = record { held = 0; taken = 0; free = replicate ORDERS 0 }
 
 -- the figures of tenant t in a column; they are `empty_figures` if there is no column, or if the column has none for tenant t
 abbrev pub column_figures : ℕ → Option Column → Figures
@@ -26,10 +27,10 @@ abbrev pub frames_of_orders : List ℕ → ℕ → ℕ → ℕ
 frames_of_orders free k zero = 0
 frames_of_orders free k (suc n) = frames_of_orders free k n + slice_index free (k + n) * 2 ^ (k + n)
 
--- the number of frames in the free blocks of order k and above; the greatest order is 8
+-- the number of frames in the free blocks of order k and above; the orders are those below ORDERS
 abbrev pub free_in : ℕ → Option Figures → ℕ
 free_in k None = 0
-free_in k (Some figures) = frames_of_orders figures.free k (9 - k)
+free_in k (Some figures) = frames_of_orders figures.free k (ORDERS - k)
 
 abbrev pub free_of : ℕ → ℕ → Option Column → ℕ
 free_of t k None = 0

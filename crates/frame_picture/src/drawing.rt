@@ -1,7 +1,7 @@
 //! The tones of the rows of a column.
 
 ghost use Rattle.std.specs.Prelude.{◌≡◌, ℕ, ◌+◌, ◌-◌, ◌^◌, ◌<◌, ◌≤◌, ◌==◌, List, Some, min, length, take, count_by, slice_get, slice_index, slice_index_or};
-ghost use Rattle.model_core.specs.declared.limits.TheConstants.{MAX_ORDER};
+ghost use Rattle.model_core.specs.declared.limits.TheConstants.{WIDE_ORDER};
 ghost use Rattle.frame_picture.specs.Kinds.{rank_of};
 ghost use Rattle.frame_picture.specs.Rows.{cells_in, row_cells, kind_count, first_of, end_of};
 ghost use Rattle.frame_picture.specs.Owned.{IsOwn};
@@ -137,7 +137,7 @@ fn count_kinds(
     first: u32,
     end: u32,
 ) -> ([usize; KINDS], usize)
-    requires order { order ≤ MAX_ORDER }
+    requires order { order ≤ WIDE_ORDER }
     requires rising { first ≤ end }
     requires own { IsOwn t sheets.now own.now }
     ensures long { length result.0 ≡ 6 }
@@ -162,7 +162,7 @@ fn count_listed(
     first: u32,
     end: u32,
 ) -> ([usize; KINDS], usize)
-    requires order { order ≤ MAX_ORDER }
+    requires order { order ≤ WIDE_ORDER }
     requires rising { first ≤ end }
     requires own { IsOwn t sheets.now own.now }
     ensures long { length result.0 ≡ 6 }
@@ -181,7 +181,7 @@ fn count_listed(
 
 /// Returns the cells of tenant `t`'s frames in `first..end` that a sheet shows.
 fn cells_of(sheet: &Sheet, t: u8, order: u32, first: u32, end: u32) -> &[FrameKind]
-    requires order { order ≤ MAX_ORDER }
+    requires order { order ≤ WIDE_ORDER }
     requires rising { first ≤ end }
     ensures { result.now ≡ cells_in order t first end sheet.now }
 {

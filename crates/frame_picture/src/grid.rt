@@ -2,7 +2,7 @@
 
 ghost use Rattle.std.specs.Prelude.{◌≡◌, ℕ, ◌+◌, ◌*◌, ◌^◌, ◌<◌, ◌≤◌, max, min, MatchOption};
 ghost use Rattle.std.specs.Int.{div_ceil};
-ghost use Rattle.model_core.specs.declared.limits.TheConstants.{MAX_ORDER};
+ghost use Rattle.model_core.specs.declared.limits.TheConstants.{WIDE_ORDER};
 ghost use Rattle.frame_picture.specs.Bounds.{IsGreatest, IsLeastPower};
 ghost use Rattle.frame_picture.specs.Slots.{IsAbove, IsSheetOf, HasSlot};
 
@@ -22,7 +22,7 @@ pub struct Grid {
     pub frames_per_row: u32,
     /// The number of rows.
     pub rows: u32,
-    ghost small: { order ≤ MAX_ORDER },
+    ghost small: { order ≤ WIDE_ORDER },
     ghost some: { 0 < frames_per_row },
     ghost all: { rows ≡ div_ceil frames frames_per_row },
 }

@@ -1,10 +1,11 @@
 //! The states of a machine over the lines of a trace.
 
 ghost use Rattle.std.specs.Prelude.{◌≡◌, ℕ, ◌+◌, ◌*◌, ◌/◌, ◌%◌, ◌^◌, ◌<◌, ◌≤◌, ◌⊎◌, min, IfOk, Option, Some, length, replicate, slice_get, slice_index, slice_set, vec_len};
-ghost use Rattle.model_core.specs.declared.limits.TheConstants.{MAX_ORDER, MAX_TENANTS};
+ghost use Rattle.model_core.specs.declared.limits.TheConstants.{WIDE_ORDER, WIDE_TENANTS};
 
 use crate::showing::{show_figures, show_refused, show_sheets};
 use kernel_core::{FrameKind, Kernel};
+use model_core::limits::WIDE_ORDER;
 use model_core::owner::Owner;
 use std::alloc::{AllocError, Global};
 
@@ -21,8 +22,8 @@ pub struct Sheet {
     pub cells: Vec<FrameKind>,
 }
 
-/// The number of orders of blocks, 0 to 8.
-pub const ORDERS: usize = 9;
+/// The number of orders of blocks, 0 to 10.
+pub const ORDERS: usize = WIDE_ORDER as usize + 1;
 
 /// A tenant's frames, as in its report.
 #[derive(Clone, Copy, Debug)]
@@ -68,8 +69,8 @@ pub struct History {
     width: u32,
     /// The number of lines that were run.
     lines: u32,
-    ghost small: { order ≤ MAX_ORDER },
-    ghost few: { tenants ≤ MAX_TENANTS },
+    ghost small: { order ≤ WIDE_ORDER },
+    ghost few: { tenants ≤ WIDE_TENANTS },
     ghost some: { 0 < width },
     ghost within: { kept ≤ vec_len columns },
 }
@@ -110,7 +111,7 @@ impl History {
     /// Returns the order of a superblock, which has `2^order` frames.
     pub fn order(&self) -> u32
         ensures value { result ≡ drawn_order self.now }
-        ensures small { result ≤ MAX_ORDER }
+        ensures small { result ≤ WIDE_ORDER }
     {
         self.order
     }
@@ -125,7 +126,7 @@ impl History {
     /// Returns the number of tenants that share the machine.
     pub fn tenants(&self) -> u32
         ensures value { result ≡ tenants_of self.now }
-        ensures few { result ≤ MAX_TENANTS }
+        ensures few { result ≤ WIDE_TENANTS }
     {
         self.tenants
     }

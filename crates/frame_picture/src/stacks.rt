@@ -50,7 +50,7 @@ pub fn free_at(columns: &[Column], t: u8, order: usize, column: usize) -> u64
 /// Returns the number of frames in free blocks of this order and above.
 fn free_from(figures: &Figures, order: usize) -> u64
     requires { order < ORDERS }
-    ensures { result ≡ frames_of_orders figures.now.free order (9 - order) }
+    ensures { result ≡ frames_of_orders figures.now.free order (ORDERS - order) }
 {
     let free = &figures.free;
     let mut frames = 0u64;
@@ -64,7 +64,7 @@ fn free_from(figures: &Figures, order: usize) -> u64
 fn frames_of_blocks(blocks: u32, order: usize) -> u64
     requires { order < ORDERS }
     ensures value { result ≡ blocks * 2 ^ order }
-    ensures few { result ≤ 2 ^ 40 }
+    ensures few { result ≤ 2 ^ 42 }
 {
     u64::from(blocks) << order
 }

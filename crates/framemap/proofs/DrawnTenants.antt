@@ -4,10 +4,10 @@ use Rattle.std.specs.Option.{ForSome}
 use Rattle.kernel_core.specs.Content.{opening_content}
 use Rattle.framemap.specs.Drawing.{end_drawn, first_drawn}
 
--- Let there be at most 64 tenants. If no tenant is requested, or if the requested one exists, the picture draws the tenants from
+-- Let there be at most 255 tenants. If no tenant is requested, or if the requested one exists, the picture draws the tenants from
 -- `first_drawn` to `end_drawn` - 1.
 pub drawn_is : (only : Option ℕ) (first end tenants : ℕ) → IfSome only (λ t. (first ≡ t) × (end ≡ min (t + 1) 255))
-    → IfNone only ((first ≡ 0) × (end ≡ tenants)) → ForSome only (λ t. t < tenants) → tenants ≤ 64
+    → IfNone only ((first ≡ 0) × (end ≡ tenants)) → ForSome only (λ t. t < tenants) → tenants ≤ 255
     → (first ≡ first_drawn only) × (end ≡ end_drawn tenants only)
 drawn_is None first end tenants one all below few = all
 drawn_is (Some t) first end tenants one all below few =

@@ -6,8 +6,8 @@ use Rattle.frame_picture.specs.Rows.{cells_between, owned_cells}
 use Rattle.frame_picture.proofs.RowLemmas.{owned}
 use Rattle.frame_picture.proofs.drawing.cells_of.Goals as goal
 
--- if a slot's number is below 2 ^ 16 and a slot has at most 2 ^ 8 frames, the number of its first frame is below 2 ^ 32
-base_fits : (slot p : ℕ) → slot < 2 ^ 16 → p ≤ 2 ^ 8 → slot * p % 2 ^ 32 ≡ slot * p
+-- if a slot's number is below 2 ^ 16 and a slot has at most 2 ^ 10 frames, the number of its first frame is below 2 ^ 32
+base_fits : (slot p : ℕ) → slot < 2 ^ 16 → p ≤ 2 ^ 10 → slot * p % 2 ^ 32 ≡ slot * p
 base_fits slot p few small =
     let le : slot ≤ 2 ^ 16 = omega arith in
     let most : slot * p ≤ 2 ^ 16 * p = mul-le-mul_right p le in

@@ -16,7 +16,7 @@ loop-own-preserved c = record {
       (λ j x below at n here. c.loop-own.invariant.told w n j x shown here below at)
       (λ n here.
       let agree = shown.agree in
-      let below : c.loop-own.own-index < 64 = omega (arith, slice_get_within w.machines c.loop-own.own-index n here, shown.tenants) in
+      let below : c.loop-own.own-index < 255 = omega (arith, slice_get_within w.machines c.loop-own.own-index n here, shown.tenants) in
       let e : c.loop-own.own-index ≡ c.loop-own.t = omega (arith, c.loop-own.invariant.tenant, below) in
       c.figures_of.ensures w n shown (subst (λ j. slice_get w.machines j ≡ Some n) e here))
       u own less there m is;

@@ -6,5 +6,5 @@ use Rattle.frame_picture.proofs.stacks.free_from.Given as goal
 abbrev pub invariant-loop-k : goal.invariant-loop-k
 invariant-loop-k l = record {
   frames : (n : ℕ) → l.k ≡ l.order + n → l.frames ≡ frames_of_orders l.free l.order n;
-  few : l.frames ≤ l.k * 2 ^ 40;
+  few : l.frames ≤ l.k * 2 ^ 42;
 }

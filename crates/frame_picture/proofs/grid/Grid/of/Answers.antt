@@ -9,8 +9,8 @@ use Rattle.frame_picture.specs.Slots.{IsAbove, HasSlot}
 use Rattle.frame_picture.proofs.SlotLemmas.{AnyBefore, slots_none, slots_more}
 use Rattle.frame_picture.proofs.grid.Grid.of.Goals as goal
 
--- if a slot has at most 2 ^ 8 frames, up to 2 ^ 16 slots have fewer than 2 ^ 32 frames
-slots_fit : (slots p : ℕ) → slots ≤ 2 ^ 16 → p ≤ 2 ^ 8 → slots * p % 2 ^ 32 ≡ slots * p
+-- if a slot has at most 2 ^ 10 frames, up to 2 ^ 16 slots have fewer than 2 ^ 32 frames
+slots_fit : (slots p : ℕ) → slots ≤ 2 ^ 16 → p ≤ 2 ^ 10 → slots * p % 2 ^ 32 ≡ slots * p
 slots_fit slots p few small = let most : slots * p ≤ 2 ^ 16 * p = mul-le-mul_right p few in omega (arith, most)
 
 pub loop-column-init : goal.loop-column-init
