@@ -1,7 +1,7 @@
 -- The block around a place, from the kind of the frame and the taken block that the buddy system has there.
 use Rattle.std.proofs.Common.{◌≡◌, ℕ, ◌*◌, ◌/◌, ◌^◌, ◌<◌, ◌≤◌, min, Option, Some, None, refl, sym, ap, ◌∙◌, arith}
 use Rattle.std.specs.Prelude.{MatchOption, unwrap_or}
-use Rattle.model_core.specs.declared.limits.TheConstants.{FRAME_BYTES, MAX_ORDER}
+use Rattle.model_core.specs.declared.limits.TheConstants.{FRAME_BYTES, WIDE_ORDER}
 use Rattle.model_core.specs.Blocks.{Block, block, HasFrame, IsTaken}
 use Rattle.model_core.specs.Machine.{Machine}
 use Rattle.buddy_core.specs.Content.{holding_of, taken_of}
@@ -23,8 +23,8 @@ use_is FrameKind.Full = refl
 use_is FrameKind.Partial = refl
 use_is FrameKind.Empty = refl
 
-pub bytes_is : (order : ℕ) → order ≤ MAX_ORDER → block_bytes order ≡ FRAME_BYTES * 2 ^ order
-bytes_is order few = let same : min order MAX_ORDER ≡ order = omega arith in ap (λ j. FRAME_BYTES * 2 ^ j) same
+pub bytes_is : (order : ℕ) → order ≤ WIDE_ORDER → block_bytes order ≡ FRAME_BYTES * 2 ^ order
+bytes_is order few = let same : min order WIDE_ORDER ≡ order = omega arith in ap (λ j. FRAME_BYTES * 2 ^ j) same
 
 untaken_is : (kind : FrameKind) (frame order : ℕ) → untaken kind frame order ≡ ((untaken_block kind frame order).first, (untaken_block kind frame order).order)
 untaken_is FrameKind.NotHeld frame order = refl

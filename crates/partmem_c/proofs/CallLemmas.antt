@@ -1,7 +1,7 @@
 -- A list of calls of `partmem_line` runs the events of its lines in the world, and writes the output of the trace of its lines.
 use Rattle.std.proofs.Common.{◌≡◌, ℕ, ◌≤◌, List, [], ◌∷◌, ◌++◌, Option, Some, None, Result, Ok, Err, refl, sym, ap, subst, ◌∙◌, arith}
 use Rattle.std.proofs.lemmas.List.{append-nil}
-use Rattle.model_core.specs.declared.limits.TheConstants.{MAX_TENANTS}
+use Rattle.model_core.specs.declared.limits.TheConstants.{WIDE_TENANTS}
 use Rattle.words_core.specs.declared.event.Event.{Event}
 use Rattle.words_core.specs.declared.event.LineFault.{LineFault}
 use Rattle.words_core.specs.Cutting.{lines_of_trace}
@@ -77,7 +77,7 @@ cut_again k k' calls ran =
     ap lines_of_trace (sym (append-nil (with_line_feeds (lines_of_calls calls)))) ∙ lines_cut (lines_of_calls calls) [] (are_lines k k' calls ran)
     ∙ append-nil (lines_of_calls calls)
 
-few_tenants : (k : KernelContent) (superblocks tenants : ℕ) → Shows k (opening_world superblocks tenants) → tenants ≤ MAX_TENANTS
+few_tenants : (k : KernelContent) (superblocks tenants : ℕ) → Shows k (opening_world superblocks tenants) → tenants ≤ WIDE_TENANTS
 few_tenants k superblocks tenants shows = omega (arith, shows.tenants, shows.agree.tenants, opening_tenants superblocks tenants)
 
 -- if the first kernel shows the opening world, the texts that the calls write are the output of the trace of their lines

@@ -6,6 +6,7 @@ mod BlockLemmas
 mod RawBoxValues
 mod KernelCellSteps
 pub mod TextLemmas
+mod FitLemmas
 pub mod CallLemmas
 pub mod ActionLemmas
 pub mod CallsAnyOrder

@@ -5,7 +5,7 @@ use Rattle.std.specs.List.{list_all}
 use Rattle.std.specs.Fmt.{digits}
 use Rattle.std.proofs.lemmas.Bool.{and_parts}
 use Rattle.hex.proofs.OnLiterals.{hex_on_literals}
-use Rattle.hex.specs.Hex.{encode_with, decode_pairs}
+use Rattle.hex.specs.Hex.{encode_with}
 use Rattle.words_core.specs.declared.event.Event.TheVariants as On
 use Rattle.words_core.specs.declared.event.AdminCommand.TheVariants as Do
 use Rattle.words_core.specs.declared.event.Command.TheVariants as Command

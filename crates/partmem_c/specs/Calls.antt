@@ -6,7 +6,7 @@ use Rattle.words_core.specs.declared.event.Command.{Command}
 use Rattle.words_core.specs.declared.event.Event.{Event}
 use Rattle.words_core.specs.declared.reply.Refusal.{Refusal}
 use Rattle.words_core.specs.declared.reply.Reply.{Reply}
-use Rattle.model_core.specs.declared.limits.TheConstants.{FRAME_BYTES, MAX_ORDER, MAX_BYTES}
+use Rattle.model_core.specs.declared.limits.TheConstants.{FRAME_BYTES, WIDE_ORDER, MAX_BYTES}
 use Rattle.world_core.specs.Limits.{cache_limit}
 use Rattle.world_core.specs.World.{World, world_step}
 use Rattle.kernel_core.specs.Content.{KernelContent}
@@ -71,9 +71,9 @@ returned_slot kind None = no_slot
 returned_slot kind (Some numbers) =
     if numbers.kind == kind then record { slot = numbers.second; superblock = numbers.third } else no_slot
 
--- the number of bytes in a block of this order; an order above MAX_ORDER counts as MAX_ORDER
+-- the number of bytes in a block of this order; an order above WIDE_ORDER counts as WIDE_ORDER
 abbrev pub block_bytes : ℕ → ℕ
-block_bytes order = FRAME_BYTES * 2 ^ min order MAX_ORDER
+block_bytes order = FRAME_BYTES * 2 ^ min order WIDE_ORDER
 
 abbrev pub made_cache : Option ReplyNumbers → MadeCache
 made_cache None = record { cache = 0; chunk = 0; slab_bytes = 0; objects = 0; colours = 0 }

@@ -1,7 +1,7 @@
 //! Boots a machine, and ends it.
 
 ghost use Rattle.std.specs.Prelude.{◌≡◌, ◌≢◌, ◌↔◌, false, IsSome, IfSome, Some, None};
-ghost use Rattle.model_core.specs.Booting.{is_bootable};
+ghost use Rattle.model_core.specs.Booting.{is_wide};
 ghost use Rattle.kernel_core.specs.Content.{opening_content};
 ghost use Rattle.kernel_core.specs.Shows.{Shows};
 ghost use Rattle.world_core.specs.World.{opening_world};
@@ -13,15 +13,15 @@ use crate::status::{BAD_CONFIG, DONE, HAS_MACHINE, NO_MACHINE, NO_MEMORY};
 use kernel_core::{BootError, Config, Kernel};
 use std::alloc::Global;
 
-/// The sizes that C passes for a machine.
+/// The sizes that C passes for a machine, which has at most 2^20 frames.
 #[repr(C)]
 #[derive(Clone, Copy, Debug)]
 pub struct MachineConfig {
-    /// The order of a superblock, 3 to 8. It has `2^order` frames.
+    /// The order of a superblock, 3 to 10. It has `2^order` frames.
     pub order: u32,
-    /// The number of superblocks of the machine, 1 to 256.
+    /// The number of superblocks of the machine, 1 to 4,096.
     pub superblocks: u32,
-    /// The number of tenants that share the machine, 1 to 64.
+    /// The number of tenants that share the machine, 1 to 255.
     pub tenants: u32,
 }
 
@@ -35,7 +35,7 @@ pub extern "C" fn partmem_boot_kernel(
     config: &MachineConfig,
 ) -> u32
     ensures has_machine { (result ≡ HAS_MACHINE) ↔ IsSome machine.old.cell.held }
-    ensures bad_config { (result ≡ BAD_CONFIG) ↔ ((machine.old.cell.held ≡ None) × (is_bootable (config_of config.now) ≡ false)) }
+    ensures bad_config { (result ≡ BAD_CONFIG) ↔ ((machine.old.cell.held ≡ None) × (is_wide (config_of config.now) ≡ false)) }
     ensures no_memory { result ≢ DONE → result ≢ HAS_MACHINE → result ≢ BAD_CONFIG → result ≡ NO_MEMORY }
     ensures done { result ≡ DONE
         → machine.new.cell.held ≡ Some (opening_content config.now.order config.now.superblocks config.now.tenants) }
@@ -51,7 +51,7 @@ pub extern "C" fn partmem_boot_kernel(
         superblocks: config.superblocks,
         tenants: config.tenants,
     };
-    let kernel = match Kernel::boot(alloc, config) {
+    let kernel = match Kernel::boot_wide(alloc, config) {
         Ok(kernel) => kernel,
         Err(BootError::BadConfig) => return BAD_CONFIG,
         Err(BootError::Memory) => return NO_MEMORY,

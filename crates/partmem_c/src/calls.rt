@@ -11,7 +11,7 @@ use crate::kinds::REFUSED;
 use crate::machine_storage::MachineStorage;
 use crate::status::{DONE, NO_MACHINE};
 use crate::telling::{ReplyNumbers, numbers_of_answer};
-use model_core::limits::{FRAME_BYTES, MAX_ORDER};
+use model_core::limits::{FRAME_BYTES, WIDE_ORDER};
 use std::alloc::Global;
 use words_core::{AdminCommand, Request};
 
@@ -64,10 +64,10 @@ pub(crate) fn call_status(reply: Option<ReplyNumbers>) -> u32
     }
 }
 
-/// Returns the number of bytes in a block of this order. An order above `MAX_ORDER` counts as `MAX_ORDER`.
+/// Returns the number of bytes in a block of this order. An order above `WIDE_ORDER` counts as `WIDE_ORDER`.
 #[inline(always)]
 pub(crate) fn block_bytes(order: u32) -> u32
     ensures { result ≡ block_bytes order }
 {
-    FRAME_BYTES << order.min(u32::from(MAX_ORDER))
+    FRAME_BYTES << order.min(u32::from(WIDE_ORDER))
 }

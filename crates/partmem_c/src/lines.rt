@@ -3,7 +3,7 @@
 ghost use Rattle.std.specs.Prelude.{◌≡◌, ◌≢◌, ℕ, ◌+◌, ◌*◌, ◌<◌, ◌≤◌, ◌∷◌, ◌++◌, false, List, length, take, drop, Some, Ok};
 ghost use Rattle.std.specs.Prelude.{IfSome, MatchOption, if◌then◌else◌};
 ghost use Rattle.words_core.specs.Grammar.{reading_of};
-ghost use Rattle.words_core.specs.Texts.{text_of};
+ghost use Rattle.words_core.specs.Texts.{lines_of, text_of};
 ghost use Rattle.words_core.specs.Requests.{command_of, reply_of_answer, reply_of_table, reply_to, HasFewBytes, HasFewRows, IsAskable};
 ghost use Rattle.words_core.specs.declared.event.Event.TheVariants.{Tenant, Admin};
 ghost use Rattle.words_core.specs.declared.event.AdminCommand.TheVariants.{Pool};
@@ -12,7 +12,7 @@ ghost use Rattle.words_core.specs.declared.reply.Addressee.TheVariants as To;
 ghost use Rattle.words_core.specs.declared.reply.Body.TheVariants as Say;
 ghost use Rattle.words_core.specs.declared.reply.Refusal.TheVariants.{NoTenant};
 ghost use Rattle.replay_core.specs.Standing.{IsRunnable};
-ghost use Rattle.partmem_c.specs.Lines.{has_line_feed, line_status, IsWide, IsTextWritten, PutsAnswer};
+ghost use Rattle.partmem_c.specs.Lines.{has_line_feed, line_status, IsWide, IsTextWritten, PutsAnswer, PutsOrNot};
 ghost use Rattle.partmem_c.specs.Lines.{AnswersWhole, AnswersOrNot, RunsLine};
 
 use crate::machine_storage::MachineStorage;
@@ -26,14 +26,15 @@ use words_core::{
     Refusal, Request, SHORT_ANSWER_BYTES, Table, read_line, write_answer, write_answer_to,
 };
 
-/// An upper bound on the number of bytes in the reply to a line. The longest reply is the table of owners.
+/// An upper bound on the number of bytes in the reply to a line, unless it is the table of owners of more than 256 superblocks.
 pub const LINE_BUFFER_BYTES: usize = MAX_ROWS * MAX_REPLY_BYTES;
 
 /// Runs a line of a trace, and writes its reply lines to the front of `buffer`. Sets `written` to the number of bytes in these
 /// lines, or to 0 if the status is not `DONE`.
 ///
-/// The line is passed without its line feed. The reply to a faulty line names the fault. A buffer of `LINE_BUFFER_BYTES` bytes is
-/// large enough for any line.
+/// The line is passed without its line feed. The reply to a faulty line names the fault. The buffer must have `LINE_BUFFER_BYTES`
+/// bytes, which are enough for each reply but one: the table of owners of more than 256 superblocks needs 256 bytes for its first
+/// line and for each superblock.
 ///
 /// Fails with `NO_MACHINE`, `NOT_A_LINE` or `BUFFER_TOO_SMALL`. The machine and the buffer are then unchanged.
 #[unsafe(no_mangle)]
@@ -57,11 +58,13 @@ pub extern "C" fn partmem_line(
     if buffer.len() < LINE_BUFFER_BYTES {
         return status_without_buffer(line);
     }
-    let Some(count) = run_line(kernel, line, buffer) else {
-        return NOT_A_LINE;
-    };
-    *written = count;
-    DONE
+    match run_line(kernel, line, buffer) {
+        Ok(count) => {
+            *written = count;
+            DONE
+        }
+        Err(status) => status,
+    }
 }
 
 /// Returns the status of a call whose buffer is too small: `NOT_A_LINE` if the line has a line feed, and otherwise
@@ -82,18 +85,18 @@ fn status_without_buffer(line: &[u8]) -> u32
 /// hex.
 const MAX_SHORT_LINE: usize = 160;
 
-/// Runs a line on the kernel, writes the answer to the front of `buffer`, and returns the number of the answer's bytes. Returns
-/// `None` and does nothing if the line has a line feed.
+/// Runs a line on the kernel, writes the answer to the front of `buffer`, and returns the number of the answer's bytes. Fails with
+/// `NOT_A_LINE` or `BUFFER_TOO_SMALL`, and then does nothing.
 ///
 /// A line that is read as one quick request contains no line feed, so such a line is not searched for line feeds.
 #[inline(always)]
-fn run_line(kernel: &mut Kernel, line: &[u8], buffer: &mut [u8]) -> Option<usize>
+fn run_line(kernel: &mut Kernel, line: &[u8], buffer: &mut [u8]) -> Result<usize, u32>
     requires { IsWide buffer.old }
     ensures { AnswersOrNot kernel.old line.now buffer.old kernel.new buffer.new result }
 {
     if line.len() >= WINDOW {
         if let Some(written) = run_long(kernel, line, buffer) {
-            return Some(written);
+            return Ok(written);
         }
         return run_any(kernel, line, buffer);
     }
@@ -102,7 +105,7 @@ fn run_line(kernel: &mut Kernel, line: &[u8], buffer: &mut [u8]) -> Option<usize
     let mut bytes = [0; MAX_BYTES];
     if let Some(read) = read_request(&ended, &mut bytes) {
         if read.len == line.len() + 1 {
-            return Some(answer_request(read.tenant, read.request, kernel, buffer));
+            return Ok(answer_request(read.tenant, read.request, kernel, buffer));
         }
     }
     run_any(kernel, line, buffer)
@@ -132,14 +135,14 @@ fn run_long(kernel: &mut Kernel, line: &[u8], buffer: &mut [u8]) -> Option<usize
 /// Does what [`run_line`] does for any line, which it reads as an event. Not inlined, since it clears the memory for an event.
 #[cold]
 #[inline(never)]
-fn run_any(kernel: &mut Kernel, line: &[u8], buffer: &mut [u8]) -> Option<usize>
+fn run_any(kernel: &mut Kernel, line: &[u8], buffer: &mut [u8]) -> Result<usize, u32>
     requires { IsWide buffer.old }
     ensures { AnswersOrNot kernel.old line.now buffer.old kernel.new buffer.new result }
 {
     if line.contains(&b'\n') {
-        return None;
+        return Err(NOT_A_LINE);
     }
-    Some(answer(read(line), kernel, buffer))
+    answer(read(line), kernel, buffer)
 }
 
 /// Reads a line. Not inlined, so that the stack that reading needs is free again before the line is answered.
@@ -287,26 +290,27 @@ fn put_no_tenant(buffer: &mut [u8]) -> usize
     put_long_answer(Addressee::Nobody, answer, buffer)
 }
 
-/// Runs a line with this reading, writes its answer, and returns the number of bytes written.
+/// Runs a line with this reading, writes its answer, and returns the number of bytes written. Fails with `BUFFER_TOO_SMALL`, and
+/// then does nothing.
 #[cold]
 #[inline(never)]
 fn answer(
     reading: Result<Option<Event>, LineFault>,
     kernel: &mut Kernel,
     buffer: &mut [u8],
-) -> usize
+) -> Result<usize, u32>
     requires runnable { IsRunnable reading }
     requires buffer { IsWide buffer.old }
-    ensures { PutsAnswer kernel.old reading kernel.new buffer.old buffer.new result }
+    ensures { PutsOrNot kernel.old reading kernel.new buffer.old buffer.new result }
 {
     match reading {
-        Ok(None) => 0,
+        Ok(None) => Ok(0),
         Ok(Some(Event::Tenant(tenant, command))) => match command.request() {
-            Some(request) => answer_apart(tenant, request, kernel, buffer),
-            None => put_report(tenant, kernel, buffer),
+            Some(request) => Ok(answer_apart(tenant, request, kernel, buffer)),
+            None => Ok(put_report(tenant, kernel, buffer)),
         },
         Ok(Some(Event::Admin(command))) => administer(&command, kernel, buffer),
-        Err(fault) => put_fault(fault, buffer),
+        Err(fault) => Ok(put_fault(fault, buffer)),
     }
 }
 
@@ -317,31 +321,43 @@ fn put_report(tenant: u32, kernel: &Kernel, buffer: &mut [u8]) -> usize
     requires { IsWide buffer.old }
     ensures { PutsAnswer kernel.now (Ok (Some (Tenant tenant Report))) kernel.now buffer.old buffer.new result }
 {
-    match kernel.tenant(tenant) {
-        Some(t) => put_table(Table::Report(t, &kernel.figures(t)), buffer),
-        None => put_no_tenant(buffer),
-    }
+    let Some(t) = kernel.tenant(tenant) else {
+        return put_no_tenant(buffer);
+    };
+    let report = kernel.figures(t);
+    // For the proof: a report has at most 44 lines.
+    let _orders = report.orders.len();
+    let _caches = report.caches.len();
+    put_table(Table::Report(t, &report), buffer)
 }
 
 #[cold]
 #[inline(never)]
-fn administer(command: &AdminCommand, kernel: &mut Kernel, buffer: &mut [u8]) -> usize
+fn administer(command: &AdminCommand, kernel: &mut Kernel, buffer: &mut [u8]) -> Result<usize, u32>
     requires { IsWide buffer.old }
-    ensures { PutsAnswer kernel.old (Ok (Some (Admin command.now))) kernel.new buffer.old buffer.new result }
+    ensures { PutsOrNot kernel.old (Ok (Some (Admin command.now))) kernel.new buffer.old buffer.new result }
 {
+    if let AdminCommand::Pool = command {
+        return put_pool(kernel, buffer);
+    }
     match kernel.administer(command) {
-        Some(answer) => put_long_answer(Addressee::Admin, answer, buffer),
+        Some(answer) => Ok(put_long_answer(Addressee::Admin, answer, buffer)),
+        // Not reached: only `pool` has no answer.
         None => put_pool(kernel, buffer),
     }
 }
 
 #[cold]
 #[inline(never)]
-fn put_pool(kernel: &Kernel, buffer: &mut [u8]) -> usize
+fn put_pool(kernel: &Kernel, buffer: &mut [u8]) -> Result<usize, u32>
     requires { IsWide buffer.old }
-    ensures { PutsAnswer kernel.now (Ok (Some (Admin Pool))) kernel.now buffer.old buffer.new result }
+    ensures { PutsOrNot kernel.now (Ok (Some (Admin Pool))) kernel.now buffer.old buffer.new result }
 {
-    put_table(Table::Owners(kernel.owners()), buffer)
+    let table = Table::Owners(kernel.owners());
+    if buffer.len() < MAX_REPLY_BYTES * table.rows() {
+        return Err(BUFFER_TOO_SMALL);
+    }
+    Ok(put_table(table, buffer))
 }
 
 #[cold]
@@ -357,7 +373,7 @@ fn put_fault(fault: LineFault, buffer: &mut [u8]) -> usize
 /// Writes the text of a table, line by line.
 fn put_table(table: Table<'_>, buffer: &mut [u8]) -> usize
     requires rows { HasFewRows table }
-    requires buffer { IsWide buffer.old }
+    requires buffer { MAX_REPLY_BYTES * length (lines_of (reply_of_table table)) ≤ length buffer.old }
     ensures { IsTextWritten (text_of (reply_of_table table.entry)) buffer.old buffer.new result }
 {
     let mut line = [0; MAX_REPLY_BYTES];

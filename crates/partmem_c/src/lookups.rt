@@ -1,7 +1,7 @@
 //! Looks up the superblock in a slot, and the block at a place.
 
 ghost use Rattle.std.specs.Prelude.{◌≡◌, ◌/◌, ◌^◌, ◌<◌, ◌≤◌};
-ghost use Rattle.model_core.specs.declared.limits.TheConstants.{FRAME_BYTES, MAX_ORDER};
+ghost use Rattle.model_core.specs.declared.limits.TheConstants.{FRAME_BYTES, WIDE_ORDER};
 ghost use Rattle.partmem_c.specs.Calls.{no_slot};
 ghost use Rattle.partmem_c.specs.Finding.{LooksUp, Returns, slot_at, FindsBlock, no_block, use_of, untaken, AreAround, IsBlockAt};
 
@@ -132,7 +132,7 @@ fn frames_around(kernel: &Kernel, t: u8, frame: u32, kind: FrameKind) -> (u32, u
     requires { t < kernel.now.tenants }
     ensures around { AreAround kernel.now t frame kind result }
     ensures first { result.0 ≤ frame }
-    ensures order { result.1 ≤ MAX_ORDER }
+    ensures order { result.1 ≤ WIDE_ORDER }
 {
     kernel.parts_agree();
     let buddy = kernel.buddy();
@@ -146,10 +146,10 @@ fn frames_around(kernel: &Kernel, t: u8, frame: u32, kind: FrameKind) -> (u32, u
 /// Returns the first frame and the order of the frame's slot if the tenant does not hold the slot, and otherwise the frame itself
 /// and order 0.
 fn untaken(kind: FrameKind, frame: u32, order: u32) -> (u32, u32)
-    requires { order ≤ MAX_ORDER }
+    requires { order ≤ WIDE_ORDER }
     ensures value { result ≡ untaken kind frame order }
     ensures first { result.0 ≤ frame }
-    ensures order { result.1 ≤ MAX_ORDER }
+    ensures order { result.1 ≤ WIDE_ORDER }
 {
     match kind {
         FrameKind::NotHeld => (frame >> order << order, order),

@@ -9,7 +9,7 @@ use crate::kinds::{
     BYTES, DESTROYED, FIGURES, FRAME, FREED, GIVEN, GRANTED, MADE, MOVED, NOTHING, OBJECT, OWNERS,
     REAPED, REFUSED, TAKEN_BACK, WAS_RESET, WRITTEN,
 };
-use model_core::limits::{MAX_BYTES, MAX_SUPERBLOCKS};
+use model_core::limits::{MAX_BYTES, WIDE_SUPERBLOCKS};
 use model_core::owner::Owner;
 use words_core::{Answer, Report};
 
@@ -27,7 +27,7 @@ pub struct ReplyNumbers {
 
 /// Returns the numbers of a table of owners: the kind and the number of superblocks. The owners themselves are left out.
 pub fn numbers_of_owners(owners: &[Option<Owner>]) -> ReplyNumbers
-    requires { length owners.now ≤ MAX_SUPERBLOCKS }
+    requires { length owners.now ≤ WIDE_SUPERBLOCKS }
     ensures { result ≡ numbers_of_body (Say.Owners (record { items = owners.now })) }
 {
     one(OWNERS, owners.len() as u32)

@@ -1,4 +1,4 @@
-use Rattle.std.proofs.Common.{◌≡◌, ◌≢◌, ℕ, Some, None, length, drop, refl, subst, sym, ap, ◌∙◌, rules}
+use Rattle.std.proofs.Common.{◌≢◌, ℕ, Some, None, length, drop, refl, subst, sym, ap, ◌∙◌, rules}
 use Rattle.words_core.specs.declared.event.Event.TheVariants.{Tenant}
 use Rattle.words_core.specs.declared.event.Command.TheVariants.{Read}
 use Rattle.kernel_core.specs.Steps.{Steps}

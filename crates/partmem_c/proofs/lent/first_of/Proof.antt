@@ -13,7 +13,7 @@ use denote.Builtin.{u8}
 use denote.Slice.{mut_slice_vals, mut_slice_Tells}
 use denote.Signature.{plain, types_at}
 use denote.Triple.Entry.{alive}
-use denote.Triple.Walked.{Stays, walk_of, says, stay_slice, Goes-slice, ends_at}
+use denote.Triple.Walked.{Stays, walk_of, stay_slice, Goes-slice, ends_at}
 use Rattle.std.proofs.mem.Facts.{says_two}
 use Rattle.partmem_c.specs.contracts.lent.first_of as f
 use Rattle.partmem_c.proofs.lent.first_of.Statement.{statement}

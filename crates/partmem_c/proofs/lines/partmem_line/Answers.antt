@@ -2,9 +2,9 @@ use Rattle.std.proofs.Common.{refl}
 use Rattle.partmem_c.proofs.TextLemmas.{one_line}
 use Rattle.partmem_c.proofs.lines.partmem_line.Goals as goal
 
-pub returns-clause-done : goal.returns-clause-done
-returns-clause-done c = λ done.
-    let answered = c.in-Some-run_line.ensures in record {
+pub returns-in-Ok-clause-done : goal.returns-in-Ok-clause-done
+returns-in-Ok-clause-done c = λ done.
+    let answered = rw c.in-Ok.is at c.run_line.ensures in record {
       before = c.in-Some.kernel.now;
       after = c.run_line.new.kernel;
       text = answered.text;
