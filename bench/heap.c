@@ -102,7 +102,8 @@ static void read_log(const char *path) {
 static void boot(void) {
     const partmem_config config = {ORDER, SUPERBLOCKS, 1};
     const partmem_memory memory = {some(PARTMEM_RAM_BYTES(ORDER, SUPERBLOCKS)), some(PARTMEM_TABLE_BYTES(ORDER, SUPERBLOCKS, 1))};
-    const partmem_heap_config with_runs = {NULL, 0, 1};
+    static uint16_t runs[SUPERBLOCKS];
+    const partmem_heap_config with_runs = {NULL, 0, SUPERBLOCKS, runs};
     const partmem_tenant tenant = {&machine, 0};
     partmem_slot slot;
     check(partmem_boot_in(&machine, &config, &memory) == PARTMEM_DONE, "boot");

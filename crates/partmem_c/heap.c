@@ -12,7 +12,7 @@ enum {
     MAX_CACHE_ALIGN = 256,
     KEPT_BYTES = 64, /* realloc makes no piece of at most this size smaller */
     NO_ROW = PARTMEM_MAX_SUPERBLOCKS,
-    /* Entries of run[] that are not the length of a run. IN_RUN is for each slot of a run except its first. FOUND and ASIDE are
+    /* Entries of runs[] that are not the length of a run. IN_RUN is for each slot of a run except its first. FOUND and ASIDE are
      * for slots that are allocated during the search for a row: FOUND if the slot can be part of the row, ASIDE if not. */
     IN_RUN = 0xffff,
     FOUND = 0xfffe,
@@ -22,6 +22,13 @@ enum {
 /* The sizes of the default classes. Their slabs have few unused bytes; docs/heap.md says how many. */
 static const uint16_t default_sizes[] = {16,  32,  48,  64,   80,   96,   128,  176,  224,  256,  336,  448,
                                          576, 816, 1024, 1168, 1360, 1632, 2048, 2336, 2720, 3264, 3568, 4096};
+
+/* What the heap has allocated and not freed. A run has the bytes of all its superblocks, which may be 4 GiB. */
+struct piece {
+    uint32_t cache; /* PARTMEM_OF_NO_CACHE for a page block or a run */
+    uint32_t place;
+    size_t bytes;
+};
 
 /* Returns the order of the smallest page block with at least `bytes` bytes. `bytes` is at most the size of a superblock. */
 static uint32_t order_for(size_t bytes)
@@ -57,20 +64,22 @@ static bool set_classes(partmem_heap *heap, const uint16_t *sizes, uint32_t coun
     return true;
 }
 
-/* Sets `slots` and `base` for a heap with runs. Returns false if the tenant has no slot, or if its slots are not 0, 1, 2 .., one
- * after another in RAM. */
-static bool set_slots(partmem_heap *heap, partmem_tenant tenant)
+/* Sets `slots`, `base` and `runs` for a heap with runs. Returns false if the tenant has no slot, or more slots than `runs` has
+ * entries, or if its slots are not 0, 1, 2 .., one after another in RAM. */
+static bool set_slots(partmem_heap *heap, partmem_tenant tenant, uint16_t *runs, uint32_t entries)
 {
     partmem_slot slot;
     uint32_t first = 0;
     for (uint32_t number = 0; number < PARTMEM_MAX_SUPERBLOCKS; number++) {
         if (partmem_find_slot(tenant, number, &slot) != PARTMEM_DONE) continue;
         if (number == 0) first = slot.superblock;
-        if (number != heap->slots || slot.superblock != first + number) return false;
+        if (number != heap->slots || number >= entries || slot.superblock != first + number) return false;
         heap->slots++;
     }
+    if (heap->slots == 0 || !runs) return false;
     heap->base = partmem_superblock_address(tenant.machine, first);
-    return heap->slots > 0;
+    heap->runs = memset(runs, 0, heap->slots * sizeof *runs);
+    return true;
 }
 
 static partmem_status set_up(partmem_heap *heap, partmem_tenant tenant, const partmem_heap_config *config)
@@ -82,7 +91,7 @@ static partmem_status set_up(partmem_heap *heap, partmem_tenant tenant, const pa
     const uint32_t count = has_sizes ? config->count : sizeof default_sizes / sizeof *default_sizes;
     if (!set_classes(heap, has_sizes ? config->sizes : default_sizes, count)) return PARTMEM_BAD_CONFIG;
     heap->order = order_for(partmem_superblock_bytes(tenant.machine));
-    if (config && config->has_runs && !set_slots(heap, tenant)) return PARTMEM_BAD_MEMORY;
+    if (config && config->slots > 0 && !set_slots(heap, tenant, config->runs, config->slots)) return PARTMEM_BAD_MEMORY;
     heap->tenant = tenant;
     return PARTMEM_DONE;
 }
@@ -155,18 +164,30 @@ static uint32_t superblocks_for(const partmem_heap *heap, size_t bytes)
     return (uint32_t)((bytes + superblock_bytes(heap) - 1) / superblock_bytes(heap));
 }
 
-/* Allocates superblocks until `count` of them lie in a row. Returns the first slot of the row, or NO_ROW if an allocation is
- * refused before there is such a row. Marks each slot that it allocates as FOUND or ASIDE. */
+/* Allocates superblocks until `count` of them lie in a row. Returns the first slot of the row, or NO_ROW if there is no such row.
+ * Marks each slot that it has allocated as FOUND or ASIDE.
+ *
+ * A slot that was granted after the initialisation has no entry in runs[], and is freed at once. An alloc returns the first free
+ * superblock, so no superblock with an entry is free by then. Those that only empty slabs use are free after a reap. */
 static uint32_t find_row(partmem_heap *heap, uint32_t count)
 {
     partmem_lent block;
+    uint32_t frames;
+    bool has_reaped = false;
     while (partmem_alloc(heap->tenant, heap->order, &block) == PARTMEM_DONE) {
         uint32_t first = slot_of(heap, block.place), end = first + 1;
-        const bool is_in_sequence = first < heap->slots && block.at == heap->base + block.place;
-        heap->run[first] = is_in_sequence ? FOUND : ASIDE;
+        if (first >= heap->slots) {
+            (void)!partmem_free(heap->tenant, block.place);
+            if (has_reaped) return NO_ROW;
+            (void)!partmem_reap(heap->tenant, &frames);
+            has_reaped = true;
+            continue;
+        }
+        const bool is_in_sequence = block.at == heap->base + block.place;
+        heap->runs[first] = is_in_sequence ? FOUND : ASIDE;
         if (!is_in_sequence) continue;
-        while (first > 0 && heap->run[first - 1] == FOUND) first--;
-        while (end < PARTMEM_MAX_SUPERBLOCKS && heap->run[end] == FOUND) end++;
+        while (first > 0 && heap->runs[first - 1] == FOUND) first--;
+        while (end < heap->slots && heap->runs[end] == FOUND) end++;
         if (end - first >= count) return first;
     }
     return NO_ROW;
@@ -175,12 +196,12 @@ static uint32_t find_row(partmem_heap *heap, uint32_t count)
 static void *take_run(partmem_heap *heap, uint32_t count)
 {
     const uint32_t first = find_row(heap, count);
-    for (uint32_t slot = 0; slot < PARTMEM_MAX_SUPERBLOCKS; slot++) {
-        if (heap->run[slot] != FOUND && heap->run[slot] != ASIDE) continue;
+    for (uint32_t slot = 0; slot < heap->slots; slot++) {
+        if (heap->runs[slot] != FOUND && heap->runs[slot] != ASIDE) continue;
         if (slot >= first && slot - first < count) {
-            heap->run[slot] = slot == first ? (uint16_t)count : IN_RUN;
+            heap->runs[slot] = slot == first ? (uint16_t)count : IN_RUN;
         } else {
-            heap->run[slot] = 0;
+            heap->runs[slot] = 0;
             (void)!partmem_free(heap->tenant, slot * superblock_bytes(heap));
         }
     }
@@ -245,32 +266,40 @@ static bool is_own(const partmem_heap *heap, const partmem_object *object)
     return class && heap->size[class - 1] == object->bytes;
 }
 
-/* Finds the piece that begins at an address. A run counts as one page block here, with the bytes of all its superblocks. */
-static partmem_status find_piece(const partmem_heap *heap, const void *at, partmem_object *piece)
+/* Returns the entry of runs[] for a slot: 0 if the slot has none. */
+static uint32_t run_at(const partmem_heap *heap, uint32_t slot)
 {
-    uint32_t place;
-    partmem_status status = find_place(heap, at, &place);
-    if (status != PARTMEM_DONE) return status;
-    const uint32_t superblocks = heap->run[slot_of(heap, place)];
-    if (superblocks) {
-        if (superblocks == IN_RUN || place % superblock_bytes(heap)) return PARTMEM_NOT_A_BLOCK;
-        *piece = (partmem_object){PARTMEM_OF_NO_CACHE, place, superblocks * superblock_bytes(heap)};
-        return PARTMEM_DONE;
-    }
-    status = partmem_find_object(heap->tenant, place, piece);
-    if (status != PARTMEM_DONE) return status;
-    if (piece->cache == PARTMEM_OF_NO_CACHE) return piece->place == place ? PARTMEM_DONE : PARTMEM_NOT_A_BLOCK;
-    return piece->place == place && is_own(heap, piece) ? PARTMEM_DONE : PARTMEM_NOT_AN_OBJECT;
+    return slot < heap->slots ? heap->runs[slot] : 0;
 }
 
-static partmem_status release(partmem_heap *heap, const partmem_object *piece)
+/* Finds the piece that begins at an address. */
+static partmem_status find_piece(const partmem_heap *heap, const void *at, struct piece *piece)
+{
+    uint32_t place;
+    partmem_object object;
+    partmem_status status = find_place(heap, at, &place);
+    if (status != PARTMEM_DONE) return status;
+    const uint32_t superblocks = run_at(heap, slot_of(heap, place));
+    if (superblocks) {
+        if (superblocks == IN_RUN || place % superblock_bytes(heap)) return PARTMEM_NOT_A_BLOCK;
+        *piece = (struct piece){PARTMEM_OF_NO_CACHE, place, (size_t)superblocks * superblock_bytes(heap)};
+        return PARTMEM_DONE;
+    }
+    status = partmem_find_object(heap->tenant, place, &object);
+    if (status != PARTMEM_DONE) return status;
+    *piece = (struct piece){object.cache, object.place, object.bytes};
+    if (object.cache == PARTMEM_OF_NO_CACHE) return object.place == place ? PARTMEM_DONE : PARTMEM_NOT_A_BLOCK;
+    return object.place == place && is_own(heap, &object) ? PARTMEM_DONE : PARTMEM_NOT_AN_OBJECT;
+}
+
+static partmem_status release(partmem_heap *heap, const struct piece *piece)
 {
     if (piece->cache != PARTMEM_OF_NO_CACHE) return partmem_give(heap->tenant, piece->cache, piece->place);
-    const uint32_t slot = slot_of(heap, piece->place), superblocks = heap->run[slot];
+    const uint32_t slot = slot_of(heap, piece->place), superblocks = run_at(heap, slot);
     partmem_status status = partmem_free(heap->tenant, piece->place);
     if (status != PARTMEM_DONE) return status;
     for (uint32_t i = 0; i < superblocks; i++) {
-        heap->run[slot + i] = 0;
+        heap->runs[slot + i] = 0;
         if (i > 0) (void)!partmem_free(heap->tenant, piece->place + i * superblock_bytes(heap));
     }
     return PARTMEM_DONE;
@@ -297,7 +326,7 @@ void *partmem_heap_aligned_alloc(partmem_heap *heap, size_t align, size_t bytes)
 
 void *partmem_heap_realloc(partmem_heap *heap, void *old, size_t bytes)
 {
-    partmem_object piece;
+    struct piece piece;
     if (!old) return allocate(heap, STEP, bytes);
     if (find_piece(heap, old, &piece) != PARTMEM_DONE) return NULL;
     const bool is_enough = bytes <= piece.bytes;
@@ -311,7 +340,7 @@ void *partmem_heap_realloc(partmem_heap *heap, void *old, size_t bytes)
 
 partmem_status partmem_heap_free(partmem_heap *heap, void *at)
 {
-    partmem_object piece;
+    struct piece piece;
     if (!at) return PARTMEM_DONE;
     partmem_status status = find_piece(heap, at, &piece);
     return status == PARTMEM_DONE ? release(heap, &piece) : status;
@@ -319,7 +348,7 @@ partmem_status partmem_heap_free(partmem_heap *heap, void *at)
 
 size_t partmem_heap_usable_size(const partmem_heap *heap, const void *at)
 {
-    partmem_object piece;
+    struct piece piece;
     return find_piece(heap, at, &piece) == PARTMEM_DONE ? piece.bytes : 0;
 }
 

@@ -14,7 +14,8 @@
  *     a request up to the largest class       take; before the first take of its class also make_cache; if no class has the
  *                                             requested alignment, alloc
  *     a larger one                            alloc of a page block, which has a power of two of frames
- *     one larger than a superblock            none, and it is refused; with runs, allocs and frees of superblocks
+ *     one larger than a superblock            none, and it is refused; with runs, allocs and frees of superblocks, and a reap
+ *                                             if an alloc returns a slot that was granted after the initialisation
  *     free                                    give or free; of a run, a free for each superblock
  *     realloc                                 none, those of a request, or those of a request and a free
  *     init, usable_size, place                none: they look things up
@@ -36,12 +37,17 @@
  * the number of a destroyed cache. If the heap takes an object of this new cache, and the size or the alignment is wrong, the
  * heap gives the object back and makes a new cache for itself.
  *
- * RUNS. Without runs nothing in the heap depends on superblocks or addresses. With runs (has_runs) a request larger than a
- * superblock allocates superblocks, beginning with the first free one, until enough of them lie in a row. This row is a run; the
- * other superblocks are freed again. So the slots of the tenant have to lie one after another in RAM. They do if all are granted
- * in a row at the start. partmem_heap_init refuses other slots. Slots that are granted later become part of no run. After
- * partmem_heap_init move no slot of the tenant, and take none back. [Otherwise a run with that slot leads to memory that others
- * own by then. Also, it then depends on superblocks which requests are refused.]
+ * RUNS. Without runs nothing in the heap depends on superblocks or addresses. With runs a request larger than a superblock
+ * allocates superblocks, beginning with the first free one, until enough of them lie in a row. This row is a run; the other
+ * superblocks are freed again. So the slots of the tenant have to lie one after another in RAM. They do if all are granted in a
+ * row at the start. partmem_heap_init refuses other slots. Slots that are granted later become part of no run. The caller provides
+ * memory for the runs, two bytes for each slot that the tenant has at the start:
+ *
+ *     static uint16_t runs[16];
+ *     partmem_heap_config config = {NULL, 0, 16, runs};
+ *
+ * After partmem_heap_init move no slot of the tenant, and take none back. [Otherwise a run with that slot leads to memory that
+ * others own by then. Also, it then depends on superblocks which requests are refused.]
  *
  * ADDRESSES. Duty 6 of partmem.h forbids storing addresses in lent bytes. But each program that calls malloc stores addresses
  * there. If a tenant may store them,
@@ -57,11 +63,11 @@
  *
  * DUTIES. The duties of partmem.h apply, with two exceptions: config and the address of a piece may be NULL, and an address that
  * is passed may have any value. A call to a heap, also partmem_heap_init, needs the lock of its tenant (duty 8). So heaps of
- * different tenants may be used at the same time. Heap and config lie outside of the machine's memory, or in lent bytes whose
- * lifetime does not end while the heap is used. The heap has addresses in it.
- * Only these functions read or write a heap; it may be copied elsewhere if the old copy is not used again. A tenant has one heap:
- * calls to a second heap count as direct calls. Do not use a heap before partmem_heap_init. After a reset of the tenant or the
- * machine's end, do not use it until it is initialised again. A heap that is all 0 may always be used.
+ * different tenants may be used at the same time. Heap, config and runs lie outside of the machine's memory, or in lent bytes
+ * whose lifetime does not end while the heap is used. The heap has addresses in it.
+ * Only these functions read or write a heap and its runs. The heap may be copied elsewhere if the old copy is not used again. A
+ * tenant has one heap: calls to a second heap count as direct calls. Do not use a heap before partmem_heap_init. After a reset of
+ * the tenant or the machine's end, do not use it until it is initialised again. A heap that is all 0 may always be used.
  *
  * PROVED: what each command of the heap does. TESTED: all of heap.c, and the functions in C that it uses, partmem_find_place and
  * partmem_superblock_address. docs/heap.md says how, and what a heap costs. */
@@ -81,7 +87,8 @@ extern "C" {
 typedef struct partmem_heap_config {
     const uint16_t *sizes; /* of the classes, in bytes: ascending multiples of 16, up to 4096. Not used after the call */
     uint32_t count;        /* how many sizes: up to 24. If it is 0, the heap has the default classes, and `sizes` is not read */
-    uint32_t has_runs;     /* 0 or 1 */
+    uint32_t slots;        /* how many entries `runs` has. If it is 0, the heap has no runs, and `runs` is not used */
+    uint16_t *runs;        /* memory of the heap for as long as it is used; its contents before do not matter */
 } partmem_heap_config;
 
 /* A heap. If its initialisation was refused, all of it is 0. Then a call returns NULL, 0, PARTMEM_NO_PLACE or NO_MACHINE, and a
@@ -89,6 +96,8 @@ typedef struct partmem_heap_config {
 typedef struct partmem_heap {
     partmem_tenant tenant;
     unsigned char *base; /* with runs: the address of place 0; else NULL */
+    /* With runs, by slot: the number of superblocks of the run that begins there, 0xffff inside a run, and 0 otherwise. */
+    uint16_t *runs;
     uint32_t slots;      /* with runs: how many slots the tenant had at the initialisation; else 0 */
     uint32_t order;      /* of a superblock */
     uint32_t classes;    /* how many classes the heap has */
@@ -97,14 +106,12 @@ typedef struct partmem_heap {
     uint8_t cache_of[PARTMEM_HEAP_MAX_CLASSES];                   /* by class: the number of its cache, plus 1; or 0 */
     uint8_t class_in[PARTMEM_MAX_CACHES];                         /* by cache: the last class that had it, plus 1; or 0 */
     uint8_t class_of[PARTMEM_FRAME_BYTES / PARTMEM_HEAP_STEP + 1]; /* by size in steps, rounded up: the class, or `classes` */
-    /* By slot: the number of superblocks of the run that begins there, 0xffff inside a run, and 0 otherwise. */
-    uint16_t run[PARTMEM_MAX_SUPERBLOCKS];
 } partmem_heap;
 
 /* Initialises the heap of a tenant. `config` is NULL for the default classes and no runs. Returns NO_MACHINE or NO_TENANT as a
  * direct call does; then BAD_CONFIG if `sizes` or `count` is not as partmem_heap_config says. With runs, then returns BAD_MEMORY
- * if the tenant has no slot, or if its slots are not 0, 1, 2 .. with superblocks that follow each other in RAM. If it does not
- * return DONE, the heap is all 0. */
+ * if the tenant has no slot or more slots than `runs` has entries, if its slots are not 0, 1, 2 .. with superblocks that follow
+ * each other in RAM, or if `runs` is NULL. If it does not return DONE, the heap is all 0, and `runs` is as before. */
 PARTMEM_CHECKED partmem_status partmem_heap_init(partmem_heap *heap, partmem_tenant tenant, const partmem_heap_config *config);
 
 /* Allocates at least `bytes` bytes, and at least 1 byte, at an address that is a multiple of 16. The bytes may have any values.
@@ -134,7 +141,8 @@ partmem_status partmem_heap_free(partmem_heap *heap, void *at);
 /* Returns how many bytes of a piece may be used, at least those that were requested; 0 if no piece begins at the address. */
 size_t partmem_heap_usable_size(const partmem_heap *heap, const void *at);
 
-/* Returns the place of the byte at an address; PARTMEM_NO_PLACE if it is not in a superblock of the tenant. */
+/* Returns the place of the byte at an address; PARTMEM_NO_PLACE if it is not in a superblock of the tenant. The last byte of a
+ * tenant that has all 4 GiB has this place too, but no piece begins there. */
 uint32_t partmem_heap_place(const partmem_heap *heap, const void *at);
 
 #ifdef __cplusplus

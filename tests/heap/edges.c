@@ -7,7 +7,8 @@ enum { ORDER = 3, UNIT = 4096 << ORDER, SLOTS = 6 };
 
 static partmem_machine machine, none;
 static const partmem_tenant first = {&machine, 0}, second = {&machine, 1}, third = {&machine, 2};
-static const partmem_heap_config with_runs = {NULL, 0, 1};
+static uint16_t runs[SLOTS + 2];
+static const partmem_heap_config with_runs = {NULL, 0, SLOTS, runs};
 static partmem_heap heap;
 
 static void grant(partmem_tenant tenant, int count)
@@ -16,10 +17,12 @@ static void grant(partmem_tenant tenant, int count)
     for (int i = 0; i < count; i++) MUST(partmem_grant(tenant, &slot) == PARTMEM_DONE);
 }
 
-static partmem_status init(partmem_tenant tenant, const uint16_t *sizes, uint32_t count, uint32_t has_runs)
+/* Initialises the heap, with runs if `entries` is not 0. */
+static partmem_status init(partmem_tenant tenant, const uint16_t *sizes, uint32_t count, uint32_t entries)
 {
-    const partmem_heap_config config = {sizes, count, has_runs};
+    const partmem_heap_config config = {sizes, count, entries, runs};
     memset(&heap, 0xa5, sizeof heap);
+    memset(runs, 0xa5, sizeof runs);
     return partmem_heap_init(&heap, tenant, &config);
 }
 
@@ -48,17 +51,22 @@ static void check_init(void)
     static const uint16_t good[] = {16, 4096};
     uint16_t many[PARTMEM_HEAP_MAX_CLASSES + 1];
     for (size_t i = 0; i < LEN(many); i++) many[i] = (uint16_t)(16 * (i + 1));
-    check_refused(init((partmem_tenant){&none, 0}, zero, 1, 1), PARTMEM_NO_MACHINE);
-    check_refused(init((partmem_tenant){&machine, 9}, zero, 1, 1), PARTMEM_NO_TENANT);
+    const partmem_heap_config no_entries = {NULL, 0, SLOTS, NULL};
+    check_refused(init((partmem_tenant){&none, 0}, zero, 1, SLOTS), PARTMEM_NO_MACHINE);
+    check_refused(init((partmem_tenant){&machine, 9}, zero, 1, SLOTS), PARTMEM_NO_TENANT);
     check_refused(init(first, zero, 1, 0), PARTMEM_BAD_CONFIG);
     check_refused(init(first, odd, 2, 0), PARTMEM_BAD_CONFIG);
     check_refused(init(first, falling, 2, 0), PARTMEM_BAD_CONFIG);
     check_refused(init(first, twice, 2, 0), PARTMEM_BAD_CONFIG);
     check_refused(init(first, large, 2, 0), PARTMEM_BAD_CONFIG);
     check_refused(init(first, many, LEN(many), 0), PARTMEM_BAD_CONFIG);
-    check_refused(init(third, good, 2, 1), PARTMEM_BAD_MEMORY); /* no slot */
-    MUST(init(first, good, 2, 0) == PARTMEM_DONE && heap.classes == 2);
-    MUST(init(first, many, LEN(many) - 1, 1) == PARTMEM_DONE && heap.classes == LEN(many) - 1 && heap.slots == SLOTS);
+    check_refused(init(third, good, 2, SLOTS), PARTMEM_BAD_MEMORY); /* no slot */
+    check_refused(init(first, good, 2, SLOTS - 1), PARTMEM_BAD_MEMORY);
+    MUST(runs[0] == 0xa5a5);
+    check_refused(partmem_heap_init(&heap, first, &no_entries), PARTMEM_BAD_MEMORY);
+    MUST(init(first, good, 2, 0) == PARTMEM_DONE && heap.classes == 2 && !heap.runs);
+    MUST(init(first, many, LEN(many) - 1, SLOTS) == PARTMEM_DONE && heap.classes == LEN(many) - 1 && heap.slots == SLOTS);
+    MUST(init(first, good, 2, SLOTS + 2) == PARTMEM_DONE && heap.slots == SLOTS && runs[SLOTS] == 0xa5a5);
     MUST(partmem_heap_init(&heap, first, NULL) == PARTMEM_DONE && heap.classes == LEN(many) - 1 && !heap.slots);
 }
 
@@ -67,17 +75,17 @@ static void check_sequence(void)
 {
     partmem_slot moved;
     grant(second, 2);
-    MUST(init(second, NULL, 0, 1) == PARTMEM_DONE && heap.slots == 2);
+    MUST(init(second, NULL, 0, 2) == PARTMEM_DONE && heap.slots == 2 && runs[2] == 0xa5a5);
     MUST(partmem_move(second, 0, &moved) == PARTMEM_DONE);
-    check_refused(init(second, NULL, 0, 1), PARTMEM_BAD_MEMORY);
+    check_refused(init(second, NULL, 0, SLOTS), PARTMEM_BAD_MEMORY);
     MUST(init(second, NULL, 0, 0) == PARTMEM_DONE && partmem_heap_malloc(&heap, 8));
     MUST(partmem_reset(second) == PARTMEM_DONE);
     grant(second, 1);
     grant(third, 1);
     grant(second, 1);
-    check_refused(init(second, NULL, 0, 1), PARTMEM_BAD_MEMORY);
+    check_refused(init(second, NULL, 0, SLOTS), PARTMEM_BAD_MEMORY);
     MUST(partmem_take_back(second, 0) == PARTMEM_DONE);
-    check_refused(init(second, NULL, 0, 1), PARTMEM_BAD_MEMORY);
+    check_refused(init(second, NULL, 0, SLOTS), PARTMEM_BAD_MEMORY);
     MUST(partmem_reset(second) == PARTMEM_DONE && partmem_reset(third) == PARTMEM_DONE);
 }
 
@@ -161,6 +169,11 @@ static void check_runs(void)
     MUST(partmem_heap_realloc(&heap, other, UNIT + 1) == other && partmem_heap_realloc(&heap, other, UNIT) == block);
     MUST(partmem_heap_usable_size(&heap, block) == UNIT && partmem_heap_free(&heap, other) == PARTMEM_OUT_OF_REACH);
     MUST(partmem_heap_free(&heap, block) == PARTMEM_DONE);
+    /* An empty slab gives way to a run, although the slot that was granted later is free. */
+    at = partmem_heap_malloc(&heap, 16);
+    MUST(at && partmem_heap_place(&heap, at) < SLOTS * UNIT && partmem_heap_free(&heap, at) == PARTMEM_DONE);
+    at = partmem_heap_malloc(&heap, SLOTS * UNIT);
+    MUST(at && partmem_heap_place(&heap, at) == 0 && partmem_heap_free(&heap, at) == PARTMEM_DONE);
 }
 
 /* Destroys the heap's cache of a class with a direct call, and makes a cache of `size` bytes and alignment 8 in its place.

@@ -34,7 +34,8 @@ static void boot(void)
     unsigned char *at = mmap(NULL, ram + tables, PROT_READ | PROT_WRITE, MAP_PRIVATE | MAP_ANONYMOUS | MAP_NORESERVE, -1, 0);
     const partmem_config config = {ORDER, SUPERBLOCKS, 1};
     const partmem_memory memory = {at, at + ram};
-    const partmem_heap_config with_runs = {NULL, 0, 1};
+    static uint16_t runs[SUPERBLOCKS];
+    const partmem_heap_config with_runs = {NULL, 0, SUPERBLOCKS, runs};
     const partmem_tenant tenant = {&machine, 0};
     partmem_slot slot;
     if (at == MAP_FAILED || partmem_boot_in(&machine, &config, &memory) != PARTMEM_DONE) stop("heap: no machine\n");

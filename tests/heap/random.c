@@ -41,6 +41,7 @@ static uint32_t order, unit, slots; /* the order and the bytes of a superblock; 
 static partmem_machine machine;
 static struct user users[USERS];
 static unsigned char *pattern;
+static uint16_t runs[STABLE][32];
 
 /* ---- Commands, each noted with what it returns -------------------------------------------------------------------------- */
 
@@ -437,8 +438,10 @@ static bool wants_runs(uint32_t number) { return number == 0 || number == STABLE
 
 static void open_user(uint32_t number, uint64_t seed)
 {
-    static const partmem_heap_config configs[STABLE] = {
-        {NULL, 0, 1}, {NULL, 0, 0}, {few_sizes, LEN(few_sizes), 0}, {many_sizes, LEN(many_sizes), 1}};
+    const partmem_heap_config configs[STABLE] = {{NULL, 0, slots, runs[0]},
+                                                 {NULL, 0, 0, NULL},
+                                                 {few_sizes, LEN(few_sizes), 0, NULL},
+                                                 {many_sizes, LEN(many_sizes), slots, runs[3]}};
     struct user *user = &users[number];
     const partmem_heap_config *config = number < STABLE ? &configs[number] : NULL;
     *user = (struct user){.tenant = {&machine, number}, .random = seed * 64 + number, .hash = 14695981039346656037u};

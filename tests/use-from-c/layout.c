@@ -84,23 +84,24 @@ FIELD(partmem_figures, caches, uint32_t, 24);
 ARRAY(partmem_figures, order, partmem_order_row, 9, 28);
 ARRAY(partmem_figures, cache, partmem_cache_row, 32, 100);
 
-STRUCT(partmem_heap_config, 16, 8);
+STRUCT(partmem_heap_config, 24, 8);
 FIELD(partmem_heap_config, sizes, const uint16_t *, 0);
 FIELD(partmem_heap_config, count, uint32_t, 8);
-FIELD(partmem_heap_config, has_runs, uint32_t, 12);
+FIELD(partmem_heap_config, slots, uint32_t, 12);
+FIELD(partmem_heap_config, runs, uint16_t *, 16);
 
-STRUCT(partmem_heap, 960, 8);
+STRUCT(partmem_heap, 456, 8);
 FIELD(partmem_heap, tenant, partmem_tenant, 0);
 FIELD(partmem_heap, base, unsigned char *, 16);
-FIELD(partmem_heap, slots, uint32_t, 24);
-FIELD(partmem_heap, order, uint32_t, 28);
-FIELD(partmem_heap, classes, uint32_t, 32);
-ARRAY(partmem_heap, size, uint16_t, 24, 36);
-ARRAY(partmem_heap, align, uint16_t, 24, 84);
-ARRAY(partmem_heap, cache_of, uint8_t, 24, 132);
-ARRAY(partmem_heap, class_in, uint8_t, 32, 156);
-ARRAY(partmem_heap, class_of, uint8_t, 257, 188);
-ARRAY(partmem_heap, run, uint16_t, 256, 446);
+FIELD(partmem_heap, runs, uint16_t *, 24);
+FIELD(partmem_heap, slots, uint32_t, 32);
+FIELD(partmem_heap, order, uint32_t, 36);
+FIELD(partmem_heap, classes, uint32_t, 40);
+ARRAY(partmem_heap, size, uint16_t, 24, 44);
+ARRAY(partmem_heap, align, uint16_t, 24, 92);
+ARRAY(partmem_heap, cache_of, uint8_t, 24, 140);
+ARRAY(partmem_heap, class_in, uint8_t, 32, 164);
+ARRAY(partmem_heap, class_of, uint8_t, 257, 196);
 
 STRUCT(partmem_request, 16, 4);
 FIELD(partmem_request, kind, uint32_t, 0);
