@@ -90,7 +90,8 @@ void rattle_dealloc(void *old)
 static bool is_bootable(const partmem_config *config)
 {
     return config->order >= PARTMEM_MIN_ORDER && config->order <= PARTMEM_MAX_ORDER && config->superblocks >= 1 &&
-           config->superblocks <= PARTMEM_MAX_SUPERBLOCKS && config->tenants >= 1 && config->tenants <= PARTMEM_MAX_TENANTS;
+           config->superblocks <= PARTMEM_MAX_SUPERBLOCKS && config->superblocks <= PARTMEM_MAX_FRAMES >> config->order &&
+           config->tenants >= 1 && config->tenants <= PARTMEM_MAX_TENANTS;
 }
 
 static bool is_aligned(const void *at, uintptr_t alignment)

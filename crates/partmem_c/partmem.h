@@ -14,7 +14,8 @@
  * kept, the hardware, and time. The last comment of this file says each exactly.
  *
  *     frame       4096 bytes
- *     superblock  2^order frames of RAM: order 3 to 8, superblocks 1 to 256, tenants 1 to 64. Numbered from 0 in a machine.
+ *     superblock  2^order frames of RAM. Numbered from 0 in a machine, which has at most 4 GiB: order 3 to 10, superblocks 1 to
+ *                 4096, tenants 1 to 255.
  *     slot        where a tenant holds a superblock. Numbered from 0 in a tenant, who cannot tell which superblock it is.
  *     place       the number of a byte of a tenant. The places of slot s begin with s * (4096 << order). Blocks and objects are
  *                 named by the place of their first byte. A move changes addresses, but no place.
@@ -43,10 +44,10 @@
  * partmem_heap.h has malloc by size and free by address for a tenant, over these calls. partmem.hpp has both for C++17.
  * With partmem_watched.h AddressSanitizer and valgrind see most of what breaks duties 4 and 5 below, and leaks.
  *
- * MEMORY. A machine uses the memory that partmem_boot_in is given: RAM, at most 256 MiB, and tables, whose sizes are constants.
+ * MEMORY. A machine uses the memory that partmem_boot_in is given: RAM, at most 4 GiB, and tables, whose sizes are constants.
  * No call but a boot allocates. For more memory or more tenants boot several machines: client c is then the tenant
- * {&machines[c / 64], c % 64}. The library uses memcpy, memmove and memset of the C library, and nothing else: no system call, no
- * thread, no clock. (An unproved library also uses write, for its notice.) partmem_boot gets the memory from aligned_alloc and
+ * {&machines[c / 255], c % 255}. The library uses memcpy, memmove and memset of the C library, and nothing else: no system call,
+ * no thread, no clock. (An unproved library also uses write, for its notice.) partmem_boot gets the memory from aligned_alloc and
  * malloc, and partmem_end frees it. A program that does not call partmem_boot is linked without these functions.
  *
  *     static _Alignas(4096) unsigned char ram[PARTMEM_RAM_BYTES(4, 16)];
@@ -85,7 +86,7 @@ extern "C" {
 #endif
 
 /* The version of this file: 10000 * major + 100 * minor + patch. partmem_version() returns the library's. */
-#define PARTMEM_VERSION 20000u
+#define PARTMEM_VERSION 30000u
 
 #if defined(__GNUC__)
 #define PARTMEM_CHECKED __attribute__((warn_unused_result))
@@ -100,14 +101,19 @@ extern "C" {
 
 #define PARTMEM_FRAME_BYTES 4096u
 #define PARTMEM_MIN_ORDER 3u /* 32 KiB */
-#define PARTMEM_MAX_ORDER 8u /* 1 MiB */
-#define PARTMEM_MAX_SUPERBLOCKS 256u
-#define PARTMEM_MAX_TENANTS 64u
+/* The sizes of a machine of the library. In crates/model_core of the sources they are WIDE_ORDER and so on. The constants that are
+ * named MAX_ORDER and so on there are smaller: they are the limits of the program `partmem`, 256 superblocks of order 3 to 8 and
+ * 64 tenants. */
+#define PARTMEM_MAX_ORDER 10u /* 4 MiB */
+#define PARTMEM_MAX_SUPERBLOCKS 4096u
+#define PARTMEM_MAX_FRAMES 1048576u /* of all superblocks: 4 GiB */
+#define PARTMEM_MAX_TENANTS 255u
 #define PARTMEM_MAX_CACHES 32u /* of a tenant */
 #define PARTMEM_MAX_PATTERN 16u
 #define PARTMEM_MAX_BYTES 64u            /* of a read or a write, and the least buffer of an event */
-#define PARTMEM_LINE_BUFFER_BYTES 65792u /* the least buffer of a line */
-#define PARTMEM_NO_PLACE 0xffffffffu     /* the place of no byte, for links that lead nowhere */
+#define PARTMEM_LINE_BUFFER_BYTES 65792u /* the least buffer of a line; partmem_line says which line needs more */
+/* A place for links that lead nowhere: no block and no object begins there. A tenant that has all 4 GiB has a byte there. */
+#define PARTMEM_NO_PLACE 0xffffffffu
 
 /* ---- Status -----------------------------------------------------------------------------------------------------------------
  *
@@ -117,7 +123,7 @@ extern "C" {
  * `at` is NULL. partmem_read, partmem_event and partmem_line say at their declarations what they do instead.
  *
  * No number makes a call write more than its declaration says: a buffer gets the bytes that were read, at most
- * PARTMEM_MAX_BYTES, or the text of a line, at most PARTMEM_LINE_BUFFER_BYTES.
+ * PARTMEM_MAX_BYTES, or the text of a line, at most as many bytes as partmem_line requires of the buffer.
  *
  * Each function lists what it returns besides DONE, and returns the first that applies. All functions with a tenant test for
  * NO_MACHINE and then for NO_TENANT, before what they list. Only partmem_write and partmem_make_cache test the number of bytes
@@ -189,9 +195,9 @@ typedef struct partmem_lent {
 
 /* The sizes of a machine. */
 typedef struct partmem_config {
-    uint32_t order;       /* 3 to 8 */
-    uint32_t superblocks; /* 1 to 256 */
-    uint32_t tenants;     /* 1 to 64 */
+    uint32_t order;       /* 3 to 10 */
+    uint32_t superblocks; /* 1 to 4096, but at most PARTMEM_MAX_FRAMES >> order */
+    uint32_t tenants;     /* 1 to 255 */
 } partmem_config;
 
 /* The memory of a machine. Its contents before boot do not matter. For the library it may be an array of char, as above. For the
@@ -256,7 +262,7 @@ typedef struct partmem_memory {
 #define PARTMEM_SET_SIZE(n) PARTMEM_PIECES(((size_t)(n) + 63) / 64 * 8)
 #define PARTMEM_POWER_OF_2(n)                                                                                                   \
     ((size_t)((n) <= 2 ? (n) : (n) <= 4 ? 4 : (n) <= 8 ? 8 : (n) <= 16 ? 16 : (n) <= 32 ? 32 : (n) <= 64 ? 64                   \
-                                                                                             : (n) <= 128 ? 128 : 256))
+              : (n) <= 128 ? 128 : (n) <= 256 ? 256 : (n) <= 512 ? 512 : (n) <= 1024 ? 1024 : (n) <= 2048 ? 2048 : 4096))
 #define PARTMEM_GROUPS(order, superblocks)                                                                                      \
     ((PARTMEM_POWER_OF_2(superblocks) << ((order) > 5 ? (order) - 5 : 0)) > 64                                                  \
          ? (PARTMEM_POWER_OF_2(superblocks) << ((order) > 5 ? (order) - 5 : 0))                                                 \
@@ -264,8 +270,9 @@ typedef struct partmem_memory {
 
 /* Boots a machine in which no superblock has an owner, in memory that is the library's until partmem_end. *config and *memory are
  * read only during the call. Superblock m lies at ram + m * PARTMEM_RAM_BYTES(order, 1), and is not touched before it is put
- * under a slot. Returns HAS_MACHINE, BAD_CONFIG, BAD_MEMORY, and NO_MEMORY if PARTMEM_TABLE_BYTES is too small. Tests boot each
- * of the 98304 combinations of sizes, and it is enough for each. */
+ * under a slot. So RAM may be address space that is not backed yet. Returns HAS_MACHINE, BAD_CONFIG, BAD_MEMORY, and NO_MEMORY if
+ * PARTMEM_TABLE_BYTES is too small. Tests boot each of the 98304 combinations of sizes up to order 8, 256 superblocks and 64
+ * tenants, and larger ones, and it is exactly enough for each. */
 PARTMEM_CHECKED partmem_status partmem_boot_in(partmem_machine *machine, const partmem_config *config,
                                                const partmem_memory *memory);
 
@@ -330,7 +337,8 @@ PARTMEM_CHECKED partmem_status partmem_alloc(partmem_tenant tenant, uint32_t ord
 /* Frees the page block that begins at the place. Returns NOT_A_BLOCK. */
 PARTMEM_CHECKED partmem_status partmem_free(partmem_tenant tenant, uint32_t place);
 
-/* Returns the place of a frame's first byte. Returns PARTMEM_NO_PLACE for a number above 0xfffff, which no frame has. */
+/* Returns the place of a frame's first byte. Returns PARTMEM_NO_PLACE for a number above 0xfffff, which no frame has: a free there
+ * is refused, but a tenant that has all 4 GiB has a byte there. */
 PARTMEM_INLINE uint32_t partmem_place_of(uint32_t frame)
 {
     return frame <= 0xfffffu ? frame * PARTMEM_FRAME_BYTES : PARTMEM_NO_PLACE;
@@ -464,7 +472,7 @@ typedef struct partmem_figures {
     uint32_t split;    /* thousandths of the free frames that are outside one largest free block, rounded up */
     uint32_t orders;   /* how many rows of order[] are used: the order of a superblock plus 1 */
     uint32_t caches;   /* how many rows of cache[] are used */
-    partmem_order_row order[PARTMEM_MAX_ORDER + 1];
+    partmem_order_row order[PARTMEM_MAX_ORDER + 1]; /* 11 rows: of orders 0 to 10 */
     partmem_cache_row cache[PARTMEM_MAX_CACHES];
 } partmem_figures;
 
@@ -540,8 +548,8 @@ PARTMEM_CHECKED partmem_status partmem_event(partmem_machine *machine, const par
 
 /* Runs a line of a trace, without its line feed. Writes its reply lines, each with a line feed, to the beginning of the buffer,
  * and the number of their bytes to `*written`; the reply to a faulty line says what is wrong. The buffer has at least
- * PARTMEM_LINE_BUFFER_BYTES bytes. Returns NO_MACHINE, NOT_A_LINE, BUFFER_TOO_SMALL; `*written` is then 0, and the buffer
- * unchanged. */
+ * PARTMEM_LINE_BUFFER_BYTES bytes. If the machine has more than 256 superblocks, the line `admin pool` needs more: 256 bytes, and
+ * 256 for each superblock. Returns NO_MACHINE, NOT_A_LINE, BUFFER_TOO_SMALL; `*written` is then 0, and nothing was done. */
 PARTMEM_CHECKED partmem_status partmem_line(partmem_machine *machine, const char *line, size_t line_len, char *buffer,
                                             size_t buffer_len, size_t *written);
 

@@ -69,7 +69,7 @@ void check_machine()
     const partmem_memory memory = {ram, tables};
     for (int i = 0; i < 2; i++) { // the destructor ends the machine, so the next can boot in the same memory
         partmem::machine machine;
-        MUST(machine.boot({3, 2, 65}, memory) == status::bad_config && machine.end() == status::no_machine);
+        MUST(machine.boot({3, 2, 256}, memory) == status::bad_config && machine.end() == status::no_machine);
         MUST(machine.boot({3, 2, 1}, memory) == status::done && machine.boot({3, 2, 1}) == status::has_machine);
         partmem::tenant tenant(machine, 0, 1);
         auto block = tenant.alloc(0);
@@ -257,7 +257,7 @@ void check_exceptions()
     partmem::tenant tenant(machine, 0, 1);
     partmem::cache<counted> cache(tenant);
     partmem::heap heap(tenant);
-    MUST(throws(status::bad_config, [] { partmem::machine({9, 1, 1}); }));
+    MUST(throws(status::bad_config, [] { partmem::machine({11, 1, 1}); }));
     MUST(throws(status::pool_empty, [&] { partmem::tenant(machine, 1, 32); }));
     MUST(throws(status::bad_order, [&] { tenant.alloc(9).value(); }));
     MUST(throws(status::no_slot, [&] { partmem::check(tenant.take_back(9)); }));

@@ -9,7 +9,9 @@ import re
 
 from checks import TOP, fail
 
-LIMITS = "FRAME_BYTES MIN_ORDER MAX_ORDER MAX_SUPERBLOCKS MAX_TENANTS MAX_CACHES MAX_PATTERN MAX_BYTES".split()
+LIMITS = "FRAME_BYTES MIN_ORDER MAX_CACHES MAX_PATTERN MAX_BYTES".split()
+# Limits of a machine. The library has those of a wide machine, which the source names WIDE_ORDER and so on.
+WIDE = "ORDER SUPERBLOCKS FRAMES TENANTS".split()
 # Maps types of Rust to types of C.
 TYPES = {"u32": "uint32_t", "usize": "size_t", "bool": "uint32_t", "*mut u8": "void *"}
 # Maps names of fields in Rust to other names in C.
@@ -168,10 +170,12 @@ def numbers_of_source():
     refusals = re.search(r"pub enum Refusal \{(.*?)\n\}", read("crates/words_core/src/reply.rt", r"//[^\n]*"), re.S)[1]
     for number, name in enumerate(re.findall(r"(\w+)(?: = 1)?,", refusals), 1):
         yield snake(name), number
-    limits = dict(re.findall(r"pub const (\w+): \w+ = (\d+);", read("crates/model_core/src/limits.rt", r"//[^\n]*")))
+    limits = dict(re.findall(r"pub const (\w+): \w+ = ([\d_]+);", read("crates/model_core/src/limits.rt", r"//[^\n]*")))
     row = re.search(r"const MAX_REPLY_BYTES: \w+ = (\d+);", read("crates/words_core/src/text.rt", r"//[^\n]*"))[1]
     for name in LIMITS:
         yield name, int(limits[name])
+    for name in WIDE:
+        yield f"MAX_{name}", int(limits[f"WIDE_{name}"])
     yield "LINE_BUFFER_BYTES", (1 + int(limits["MAX_SUPERBLOCKS"])) * int(row)
 
 
@@ -185,7 +189,7 @@ def by_name(what, pairs):
 
 # Constants that only C has: the version, the number that is no place, two that make the enums 32 bits wide, and the statuses that
 # only functions in C return.
-OF_C = {"VERSION": 20000, "NO_PLACE": 2 ** 32 - 1, "STATUS_BITS": 2 ** 31 - 1, "USE_BITS": 2 ** 31 - 1, "BAD_MEMORY": 35,
+OF_C = {"VERSION": 30000, "NO_PLACE": 2 ** 32 - 1, "STATUS_BITS": 2 ** 31 - 1, "USE_BITS": 2 ** 31 - 1, "BAD_MEMORY": 35,
         "NOT_HELD": 38}
 
 

@@ -73,7 +73,7 @@ FIELD(partmem_cache_row, partial, uint32_t, 8);
 FIELD(partmem_cache_row, empty, uint32_t, 12);
 FIELD(partmem_cache_row, live, uint32_t, 16);
 
-STRUCT(partmem_figures, 740, 4);
+STRUCT(partmem_figures, 756, 4);
 FIELD(partmem_figures, frames, uint32_t, 0);
 FIELD(partmem_figures, live, uint32_t, 4);
 FIELD(partmem_figures, free, uint32_t, 8);
@@ -81,8 +81,8 @@ FIELD(partmem_figures, greatest, uint32_t, 12);
 FIELD(partmem_figures, split, uint32_t, 16);
 FIELD(partmem_figures, orders, uint32_t, 20);
 FIELD(partmem_figures, caches, uint32_t, 24);
-ARRAY(partmem_figures, order, partmem_order_row, 9, 28);
-ARRAY(partmem_figures, cache, partmem_cache_row, 32, 100);
+ARRAY(partmem_figures, order, partmem_order_row, 11, 28);
+ARRAY(partmem_figures, cache, partmem_cache_row, 32, 116);
 
 STRUCT(partmem_heap_config, 24, 8);
 FIELD(partmem_heap_config, sizes, const uint16_t *, 0);
@@ -139,11 +139,12 @@ IS(&partmem_heap_usable_size, size_t (*)(const partmem_heap *, const void *));
 IS(&partmem_heap_place, uint32_t (*)(const partmem_heap *, const void *));
 
 /* The sizes of the RAM and of the tables are constants of type size_t. */
-IS(PARTMEM_RAM_BYTES(8u, 256u), size_t);
-IS(PARTMEM_TABLE_BYTES(8u, 256u, 64u), size_t);
+IS(PARTMEM_RAM_BYTES(10u, 1024u), size_t);
+IS(PARTMEM_TABLE_BYTES(10u, 1024u, 255u), size_t);
 _Static_assert(PARTMEM_RAM_BYTES(8, 256) == 256 << 20 && PARTMEM_TABLE_BYTES(8, 256, 64) < 6 << 20, "another size");
+_Static_assert(PARTMEM_RAM_BYTES(10, 1024) == (size_t)4 << 30 && PARTMEM_TABLE_BYTES(10, 1024, 64) < 71 << 20, "another size");
 
-/* Enums have 32 bits. The longest reply to a line is the reply to `admin pool`: a first line, and a line for each of at most 256
- * superblocks. Each of these lines has at most 256 bytes. A read returns at most 64 bytes. */
+/* Enums have 32 bits. On a machine of 256 superblocks the longest reply to a line is the reply to `admin pool`: a first line, and
+ * a line for each superblock. Each of these lines has at most 256 bytes. A read returns at most 64 bytes. */
 _Static_assert(sizeof(partmem_status) == 4 && sizeof(partmem_use) == 4, "another enum");
 _Static_assert(PARTMEM_LINE_BUFFER_BYTES == 257 * 256 && PARTMEM_MAX_BYTES == 64, "another buffer");
