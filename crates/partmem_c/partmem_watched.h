@@ -190,6 +190,14 @@ PARTMEM_INLINE void partmem_watched_finish(partmem_watched_piece piece)
 
 /* ---- Machines ------------------------------------------------------------------------------------------------------------ */
 
+/* Returns how many superblocks a machine has, 0 if there is no machine. */
+PARTMEM_INLINE uint32_t partmem_watched_superblocks(const partmem_machine *machine)
+{
+    uint32_t number = 0;
+    while (partmem_superblock_address(machine, number) != NULL) number++;
+    return number;
+}
+
 PARTMEM_INLINE void partmem_watched_open(partmem_machine *machine)
 {
     const size_t bytes = partmem_superblock_bytes(machine);
@@ -246,13 +254,14 @@ PARTMEM_INLINE uint32_t partmem_watched_print_slot(partmem_tenant tenant, uint32
 
 PARTMEM_INLINE void partmem_watched_print_leaks(partmem_machine *machine)
 {
-    const uint32_t slot_bytes = partmem_superblock_bytes(machine);
+    const uint32_t slot_bytes = partmem_superblock_bytes(machine), superblocks = partmem_watched_superblocks(machine);
     partmem_tenant tenant;
     partmem_slot found;
     uint32_t pieces = 0, slot;
     tenant.machine = machine;
-    for (tenant.number = 0; tenant.number < PARTMEM_MAX_TENANTS; tenant.number++) {
-        for (slot = 0; slot < PARTMEM_MAX_SUPERBLOCKS; slot++) {
+    if (superblocks == 0) return;
+    for (tenant.number = 0; partmem_find_slot(tenant, 0, &found) != PARTMEM_NO_TENANT; tenant.number++) {
+        for (slot = 0; slot < superblocks; slot++) {
             if (partmem_find_slot(tenant, slot, &found) == PARTMEM_DONE) {
                 pieces = partmem_watched_print_slot(tenant, slot, slot_bytes, pieces);
             }
@@ -287,12 +296,24 @@ typedef struct partmem_watched_ending {
     uint32_t place;
     partmem_watched_piece piece; /* the live one that contains the place; it has 0 bytes if there is none */
     uint32_t slots;
-    partmem_slot slot[PARTMEM_MAX_SUPERBLOCKS];
+    partmem_slot *slot; /* from malloc, if there are slots */
 } partmem_watched_ending;
 
-PARTMEM_INLINE void partmem_watched_note_slot(partmem_watched_ending *ending, uint32_t slot)
+/* Notes those of `count` slots that the tenant holds. */
+PARTMEM_INLINE void partmem_watched_note_slots(partmem_watched_ending *ending, uint32_t first, uint32_t count)
 {
-    if (partmem_find_slot(ending->tenant, slot, &ending->slot[ending->slots]) == PARTMEM_DONE) ending->slots++;
+    partmem_slot slot;
+    uint32_t i, held = 0;
+    for (i = 0; i < count; i++) held += partmem_find_slot(ending->tenant, first + i, &slot) == PARTMEM_DONE;
+    if (held == 0) return;
+    ending->slot = (partmem_slot *)malloc(held * sizeof slot);
+    if (ending->slot == NULL) {
+        fputs("partmem: there is no memory to watch a command\n", stderr);
+        abort();
+    }
+    for (i = 0; i < count; i++) {
+        if (partmem_find_slot(ending->tenant, first + i, &slot) == PARTMEM_DONE) ending->slot[ending->slots++] = slot;
+    }
 }
 
 PARTMEM_INLINE void partmem_watched_note_place(partmem_watched_ending *ending, uint32_t place)
@@ -313,17 +334,15 @@ PARTMEM_INLINE void partmem_watched_note_place(partmem_watched_ending *ending, u
 PARTMEM_INLINE void partmem_watched_before(partmem_watched_ending *ending, partmem_tenant tenant, uint32_t kind, uint32_t first,
                                            uint32_t second)
 {
-    uint32_t slot;
     partmem_watched_enter();
     ending->tenant = tenant;
     ending->piece.bytes = 0;
     ending->slots = 0;
+    ending->slot = NULL;
     if (kind == PARTMEM_FREE) partmem_watched_note_place(ending, partmem_place_of(first));
     if (kind == PARTMEM_GIVE) partmem_watched_note_place(ending, second);
-    if (kind == PARTMEM_TAKE_BACK || kind == PARTMEM_MOVE) partmem_watched_note_slot(ending, first);
-    if (kind == PARTMEM_RESET) {
-        for (slot = 0; slot < PARTMEM_MAX_SUPERBLOCKS; slot++) partmem_watched_note_slot(ending, slot);
-    }
+    if (kind == PARTMEM_TAKE_BACK || kind == PARTMEM_MOVE) partmem_watched_note_slots(ending, first, 1);
+    if (kind == PARTMEM_RESET) partmem_watched_note_slots(ending, 0, partmem_watched_superblocks(tenant.machine));
 }
 
 /* Poisons what has ended. */
@@ -340,6 +359,7 @@ PARTMEM_INLINE void partmem_watched_after(const partmem_watched_ending *ending)
                                   partmem_superblock_bytes(machine));
         }
     }
+    free(ending->slot);
     if (ending->piece.bytes > 0 && partmem_find_object(ending->tenant, ending->place, &object) != PARTMEM_DONE) {
         partmem_watched_finish(ending->piece);
     }
