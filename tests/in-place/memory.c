@@ -1,13 +1,17 @@
-/* Checks the memory of a machine that partmem_boot_in boots. For a grid of sizes, boot may write at most PARTMEM_TABLE_BYTES of
+/* Checks the memory of a machine that partmem_boot_in boots. For a grid of sizes, boot has to use exactly PARTMEM_TABLE_BYTES of
  * the tables and nothing of the RAM, and superblock m has to lie m superblocks behind the beginning of the RAM. Then, for each
  * order, a machine in memory full of zeroes has to lend the same places and bytes as one in memory full of another byte. Blocks
  * and objects have to lie in their superblocks, partmem_find_place has to return their places, and superblocks that were never
- * granted may not change. */
+ * granted may not change. At last machines have 4 GiB of address space as RAM. A boot, grants and events have to leave all of its
+ * pages untouched, and a lend touches only the pages of its superblock. Blocks of 2 MiB lie at multiples of 2 MiB, and the last
+ * byte has its place. */
 #include <sys/mman.h>
 
 #include "trial.h"
 
-enum { FIRST_ORDER = 3, LAST_ORDER = 8, TENANTS = 2, OTHER = 0xee, GUARD = 4096, RAM = 8 << 20, WIDEST_RAM = 256 << 20 };
+enum { FIRST_ORDER = 3, LAST_ORDER = PARTMEM_MAX_ORDER, TENANTS = 2, OTHER = 0xee, GUARD = 4096, RAM = 8 << 20, HUGE = 2 << 20 };
+
+#define WIDEST_RAM ((size_t)4 << 30)
 
 static partmem_machine machine;
 static const partmem_tenant me = {&machine, 1}, another = {&machine, 0};
@@ -27,6 +31,14 @@ static partmem_status boot_at(void *its_ram, void *its_tables)
     return partmem_boot_in(&machine, &sizes, &memory);
 }
 
+/* Returns how many bytes of the tables the boot has left free. It is the fourth word of the `struct state` of memory.c. */
+static size_t left_after_boot(void)
+{
+    size_t words[4];
+    memcpy(words, machine.held[2], sizeof words);
+    return words[3];
+}
+
 /* Boots with tables that are full of one byte. */
 static void boot_in(uint32_t order, uint32_t superblocks, uint32_t tenants, int before)
 {
@@ -35,7 +47,7 @@ static void boot_in(uint32_t order, uint32_t superblocks, uint32_t tenants, int 
     table_bytes = PARTMEM_TABLE_BYTES(order, superblocks, tenants);
     memset(tables, before, table_bytes);
     memset(tables + table_bytes, OTHER, GUARD);
-    MUST(boot_at(ram, tables) == PARTMEM_DONE);
+    MUST(boot_at(ram, tables) == PARTMEM_DONE && left_after_boot() == 0);
     for (uint32_t m = 0; m < superblocks; m++) MUST(partmem_superblock_address(&machine, m) == ram + m * unit);
     MUST(!partmem_superblock_address(&machine, superblocks) && !partmem_superblock_address(&machine, UINT32_MAX));
 }
@@ -52,7 +64,7 @@ static void try_sizes(void)
     static const uint32_t superblocks[] = {1,  2,  3,  4,  5,  6,  7,  8,  9,   12,  15,  16,  17,  20,
                                            31, 32, 33, 48, 63, 64, 65, 100, 127, 128, 129, 200, 255, 256};
     static const uint32_t tenants[] = {1, 2, 3, 4, 5, 7, 8, 9, 15, 16, 17, 31, 32, 33, 48, 63, 64};
-    const uint32_t count = (LAST_ORDER - FIRST_ORDER + 1) * LEN(superblocks) * LEN(tenants);
+    const uint32_t count = 6 * LEN(superblocks) * LEN(tenants);
     double most = 0, least = 9, sum = 0;
     for (uint32_t i = 0; i < count; i++) {
         size_t written;
@@ -65,6 +77,22 @@ static void try_sizes(void)
         end();
     }
     printf("%u sizes: the tables are %.4f to %.3f times what boot writes, %.4f in the mean\n", count, least, most, sum / count);
+}
+
+/* Boots machines of more than 256 superblocks, of more than 64 tenants, or of the orders 9 and 10, in RAM that cannot be read or
+ * written. */
+static void try_wide_sizes(void)
+{
+    static const uint32_t superblocks[] = {1, 2, 64, 65, 255, 257, 511, 512, 513, 1023, 1024, 1025, 2048, 2049, 4095, 4096};
+    static const uint32_t tenants[] = {255, 1, 64, 65, 129};
+    uint32_t count = 0;
+    for (uint32_t order = FIRST_ORDER; order <= LAST_ORDER; order++) {
+        for (uint32_t i = 0; i < LEN(superblocks) && superblocks[i] <= PARTMEM_MAX_FRAMES >> order; i++) {
+            boot_in(order, superblocks[i], tenants[count++ % LEN(tenants)], OTHER);
+            end();
+        }
+    }
+    printf("%u wide sizes: boot uses the tables to their last piece\n", count);
 }
 
 /* Checks that lent memory lies in its superblock, that partmem_find_place returns the places of its first and last byte, and that
@@ -161,7 +189,7 @@ static void try_boots(void)
 {
     static const partmem_machine zeroes;
     partmem_machine second = {{0}};
-    const partmem_config good = {3, 4, 2}, bad = {3, 4, 65};
+    const partmem_config good = {3, 4, 2}, bad = {3, 4, 256};
     sizes = good;
     MUST(boot_at(NULL, tables) == PARTMEM_BAD_MEMORY && boot_at(ram, NULL) == PARTMEM_BAD_MEMORY);
     MUST(boot_at(ram + 2048, tables) == PARTMEM_BAD_MEMORY && boot_at(ram + 16, tables) == PARTMEM_BAD_MEMORY);
@@ -186,13 +214,109 @@ static uint8_t *reserve(size_t bytes, int how)
     return at + 4096;
 }
 
+/* Returns how many pages of the RAM between two addresses are in memory. */
+static size_t touched(const uint8_t *from, const uint8_t *to)
+{
+    static unsigned char pages[WIDEST_RAM / 4096];
+    size_t count = 0;
+    MUST(from == to || mincore((void *)from, (size_t)(to - from), pages) == 0);
+    for (size_t i = 0; i < (size_t)(to - from) / 4096; i++) count += pages[i] & 1;
+    return count;
+}
+
+/* Boots a machine with 4 GiB of address space as RAM. One tenant gets all of it. Its events allocate all superblocks but the first
+ * and the last. */
+static void try_address_space(uint32_t order)
+{
+    const uint8_t *ram_end = ram + WIDEST_RAM;
+    partmem_request request = {PARTMEM_ALLOC, me.number, order, 0};
+    partmem_slot slot;
+    partmem_reply reply;
+    partmem_lent block, last;
+    partmem_block found;
+    partmem_object object;
+    partmem_figures figures;
+    uint8_t bytes[PARTMEM_MAX_BYTES];
+    uint32_t place;
+    boot_in(order, PARTMEM_MAX_FRAMES >> order, TENANTS, OTHER);
+    for (uint32_t m = 0; m < sizes.superblocks; m++) MUST(partmem_grant(me, &slot) == PARTMEM_DONE && slot.slot == m);
+    MUST(partmem_grant(another, &slot) == PARTMEM_POOL_EMPTY);
+    for (uint32_t m = 0; m < sizes.superblocks; m++) {
+        MUST(partmem_event(&machine, &request, bytes, 0, &reply, bytes, sizeof bytes) == PARTMEM_DONE && reply.first == m << order);
+    }
+    MUST(touched(ram, ram_end) == 0);
+    MUST(partmem_free(me, 0) == PARTMEM_DONE && partmem_free(me, (uint32_t)(WIDEST_RAM - unit)) == PARTMEM_DONE);
+    for (uint32_t k = 0; k < 2; k++) {
+        const uint32_t small = order - k;
+        MUST(partmem_alloc(me, small, &block) == PARTMEM_DONE && block.at == ram && block.place == 0);
+        MUST((uintptr_t)block.at % block.bytes == 0 || block.bytes > HUGE);
+        MUST(partmem_free(me, 0) == PARTMEM_DONE);
+    }
+    MUST(touched(ram, ram + unit) == unit / 4096 && touched(ram + unit, ram_end) == 0);
+    MUST(partmem_alloc(me, order, &block) == PARTMEM_DONE && partmem_alloc(me, order, &last) == PARTMEM_DONE);
+    MUST(touched(ram + unit, ram_end - unit) == 0 && touched(ram_end - unit, ram_end) == unit / 4096);
+    uint8_t *const end_of_last = (uint8_t *)last.at + last.bytes;
+    MUST(end_of_last == ram_end && last.place == (uint32_t)(WIDEST_RAM - unit));
+    MUST(partmem_find_place(me, ram_end - 1, &place) == PARTMEM_DONE && place == PARTMEM_NO_PLACE);
+    MUST(partmem_find_place(me, ram_end, &place) == PARTMEM_NOT_HELD && partmem_find_place(me, ram - 1, &place) == PARTMEM_NOT_HELD);
+    MUST(partmem_at(me, PARTMEM_NO_PLACE, 1) == end_of_last - 1 && !partmem_at(me, PARTMEM_NO_PLACE, 2));
+    MUST(!partmem_at(me, last.place, last.bytes + 1) && partmem_at(me, last.place, last.bytes) == last.at);
+    MUST(partmem_find_block(me, PARTMEM_NO_PLACE, &found) == PARTMEM_DONE && found.place == last.place);
+    MUST(found.use == PARTMEM_PAGE_BLOCK && found.place + found.bytes == 0);
+    MUST(partmem_find_object(me, PARTMEM_NO_PLACE, &object) == PARTMEM_DONE && object.place == last.place);
+    MUST(partmem_free(me, PARTMEM_NO_PLACE) == PARTMEM_NOT_A_BLOCK && partmem_free(me, partmem_place_of(0x100000)) != PARTMEM_DONE);
+    MUST(partmem_report(me, &figures) == PARTMEM_DONE && figures.frames == PARTMEM_MAX_FRAMES && figures.free == 0);
+    MUST(figures.orders == order + 1 && figures.order[order].taken == sizes.superblocks && figures.greatest == 0);
+    MUST(partmem_reset(me) == PARTMEM_DONE && touched(ram + unit, ram_end - unit) == 0);
+    end();
+    MUST(touched(ram + unit, ram_end - unit) == 0 && madvise(ram, WIDEST_RAM, MADV_DONTNEED) == 0);
+}
+
+/* Tries 4 GiB of address space that begins at a multiple of 2 MiB. */
+static void try_widest(void)
+{
+    uint8_t *at = mmap(NULL, WIDEST_RAM + HUGE, PROT_READ | PROT_WRITE, MAP_PRIVATE | MAP_ANONYMOUS | MAP_NORESERVE, -1, 0);
+    if (at == MAP_FAILED) {
+        puts("there are no 4 GiB of address space: not tried");
+        return;
+    }
+    ram = at + -(uintptr_t)at % HUGE;
+    madvise(ram, WIDEST_RAM, MADV_NOHUGEPAGE); /* a huge page is touched as a whole */
+    for (uint32_t order = 8; order <= LAST_ORDER; order++) try_address_space(order);
+    puts("4 GiB of address space: only the pages of lent superblocks are touched");
+    munmap(at, WIDEST_RAM + HUGE);
+}
+
+/* Checks that page blocks of 2 MiB lie at multiples of 2 MiB if the RAM does. */
+static void try_huge_pages(void)
+{
+    partmem_lent block;
+    uint8_t *at = mmap(NULL, RAM + HUGE, PROT_READ | PROT_WRITE, MAP_PRIVATE | MAP_ANONYMOUS, -1, 0);
+    MUST(at != MAP_FAILED);
+    ram = at + -(uintptr_t)at % HUGE;
+    for (uint32_t order = 9; order <= LAST_ORDER; order++) {
+        uint32_t count = 0;
+        boot_in(order, RAM / (PARTMEM_FRAME_BYTES << order), TENANTS, OTHER);
+        grant_half();
+        while (partmem_alloc(me, 9, &block) == PARTMEM_DONE) {
+            MUST(block.bytes == HUGE && (uintptr_t)block.at % HUGE == 0 && block.place == count++ * HUGE);
+        }
+        MUST(count == RAM / 2 / HUGE);
+        end();
+    }
+    munmap(at, RAM + HUGE);
+}
+
 int main(void)
 {
-    tables = reserve((PARTMEM_TABLE_BYTES(8, 256, 64) + GUARD + 4095) / 4096 * 4096, PROT_READ | PROT_WRITE);
+    tables = reserve((PARTMEM_TABLE_BYTES(8, 4096, 255) + GUARD + 4095) / 4096 * 4096, PROT_READ | PROT_WRITE);
     ram = reserve(WIDEST_RAM, PROT_NONE);
     try_sizes();
+    try_wide_sizes();
     ram = reserve(RAM, PROT_READ | PROT_WRITE);
     for (uint32_t order = FIRST_ORDER; order <= LAST_ORDER; order++) MUST(seen_in(order, OTHER) == seen_in(order, 0));
     try_boots();
+    try_huge_pages();
+    try_widest();
     return 0;
 }

@@ -120,7 +120,9 @@ static void check_wild_lengths(uint32_t place)
 
 static void check_machines(void)
 {
-    static const partmem_config good = {3, 4, 2}, bad[] = {{2, 4, 2}, {9, 4, 2}, {3, 0, 2}, {3, 257, 2}, {3, 4, 0}, {3, 4, 65}};
+    static const partmem_config good = {3, 4, 2}, bad[] = {{2, 4, 2},     {11, 4, 2},    {3, 0, 2}, {3, 4097, 2}, {9, 2049, 2},
+                                                           {10, 1025, 2}, {32, 4, 2},    {3, 4, 0}, {3, 4, 256},  {UINT32_MAX, 4, 2},
+                                                           {3, UINT32_MAX, 2}, {3, 4, UINT32_MAX}};
     for (size_t i = 0; i < LEN(bad); i++) {
         MUST(partmem_boot(&none, &bad[i]) == PARTMEM_BAD_CONFIG && partmem_boot(&machine, &bad[i]) == PARTMEM_HAS_MACHINE);
     }

@@ -28,7 +28,7 @@ pub enum Error {
     /// A number of the [`Config`](crate::Config) is out of range, or the sizes of a heap's classes are not allowed.
     BadConfig,
     /// The [`Memory`](crate::Memory) of a machine is too small or not aligned. Or a tenant cannot have a heap with runs: it has
-    /// no slot, or its slots do not lie in a row.
+    /// no slot, or its slots do not lie in a row, or it has such a heap already.
     BadMemory,
     /// An allocation failed. A heap returns this error if no free block of its tenant is large enough, or if the alignment of the
     /// value is above 4096.

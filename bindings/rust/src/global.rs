@@ -92,7 +92,7 @@ impl LazyHeap {
         if let State::New { open, has_runs } = self.0 {
             let opened = open().and_then(|(machine, tenant)| {
                 let machine = ManuallyDrop::new(machine);
-                let raw = RawHeap::new(machine.of(tenant), &[], has_runs)?;
+                let raw = RawHeap::new(&machine, tenant, &[], has_runs)?;
                 Ok(State::Opened(machine, tenant, raw))
             });
             self.0 = opened.unwrap_or(State::Failed);

@@ -1,5 +1,5 @@
 //! The heap of a tenant, for values and collections.
-use crate::{error::done, sys, Client, Error, Place};
+use crate::{error::done, sys, Client, Error, Machine, Place, Tenant};
 use core::alloc::Layout;
 use core::cell::UnsafeCell;
 use core::mem::ManuallyDrop;
@@ -11,32 +11,39 @@ use core::{fmt, mem};
 const STEP: usize = 16;
 
 /// A `partmem_heap` of a booted machine. Its users make one call at a time.
-pub(crate) struct RawHeap(UnsafeCell<sys::Heap>);
+pub(crate) struct RawHeap {
+    raw: UnsafeCell<sys::Heap>,
+    has_runs: bool,
+}
 
 impl RawHeap {
-    /// Initialises a heap. If there are no sizes, it has the default classes.
-    pub(crate) fn new(tenant: sys::Tenant, sizes: &[u16], has_runs: bool) -> Result<RawHeap, Error> {
+    /// Initialises the heap of a tenant. If there are no sizes, it has the default classes.
+    pub(crate) fn new(machine: &Machine, tenant: Tenant, sizes: &[u16], has_runs: bool) -> Result<RawHeap, Error> {
         // Copies the sizes: they may lie in lent bytes, and no argument of the library may lie there.
         let mut copy = [0; sys::MAX_CLASSES];
         copy.get_mut(..sizes.len()).ok_or(Error::BadConfig)?.copy_from_slice(sizes);
-        let config = sys::HeapConfig { sizes: copy.as_ptr(), count: sizes.len() as u32, has_runs: has_runs.into() };
+        let (runs, slots) = if has_runs { machine.take_runs(tenant)? } else { (ptr::null_mut(), 0) };
+        let config = sys::HeapConfig { sizes: copy.as_ptr(), count: sizes.len() as u32, slots, runs };
         let mut raw = sys::Heap::none();
-        // SAFETY: heap and config are local variables, and the sizes are as many as the config says.
-        done(unsafe { sys::partmem_heap_init(&mut raw, tenant, &config) })?;
-        Ok(RawHeap(UnsafeCell::new(raw)))
+        // SAFETY: heap and config are local variables, and the sizes are as many as the config says. No other heap has the runs.
+        let status = done(unsafe { sys::partmem_heap_init(&mut raw, machine.of(tenant), &config) });
+        if has_runs && status.is_err() {
+            machine.leave_runs(tenant);
+        }
+        status.map(|()| RawHeap { raw: UnsafeCell::new(raw), has_runs })
     }
 
     /// Allocates memory of a layout, at least one byte. Returns null if there is no memory, or if the alignment is above 4096.
     pub(crate) fn allocate(&self, layout: Layout) -> *mut u8 {
         // SAFETY: the heap was initialised, and its machine is booted.
-        unsafe { sys::partmem_heap_aligned_alloc(self.0.get(), layout.align().max(STEP), layout.size()) }
+        unsafe { sys::partmem_heap_aligned_alloc(self.raw.get(), layout.align().max(STEP), layout.size()) }
     }
 
     /// # Safety
     /// The piece is from this heap, and is not used again.
     pub(crate) unsafe fn free(&self, at: *mut u8) {
         // SAFETY: as said above. If nothing live begins at the address, the heap frees nothing.
-        let status = unsafe { sys::partmem_heap_free(self.0.get(), at) };
+        let status = unsafe { sys::partmem_heap_free(self.raw.get(), at) };
         debug_assert_eq!(status, 0, "no piece of the heap begins there");
     }
 
@@ -48,7 +55,7 @@ impl RawHeap {
     pub(crate) unsafe fn resize(&self, at: *mut u8, old: Layout, new: Layout) -> *mut u8 {
         if new.align().max(old.align()) <= STEP {
             // SAFETY: as said above.
-            return unsafe { sys::partmem_heap_realloc(self.0.get(), at, new.size()) };
+            return unsafe { sys::partmem_heap_realloc(self.raw.get(), at, new.size()) };
         }
         let to = self.allocate(new);
         if !to.is_null() {
@@ -62,16 +69,19 @@ impl RawHeap {
     }
 
     /// Destroys the heap's caches, except those that still have a live object. Such an object was leaked.
-    fn close(&mut self, tenant: sys::Tenant) {
-        for cache in self.0.get_mut().cache_of.iter().filter(|cache| **cache > 0) {
+    fn close(&mut self, machine: &Machine, tenant: Tenant) {
+        for cache in self.raw.get_mut().cache_of.iter().filter(|cache| **cache > 0) {
             // SAFETY: the machine is booted, and the call's locks are held. Nothing of a cache without live objects is used.
-            let _ = unsafe { sys::partmem_destroy_cache(tenant, u32::from(*cache) - 1) };
+            let _ = unsafe { sys::partmem_destroy_cache(machine.of(tenant), u32::from(*cache) - 1) };
+        }
+        if self.has_runs {
+            machine.leave_runs(tenant);
         }
     }
 
     fn place(&self, at: *const u8) -> Place {
         // SAFETY: any address is allowed.
-        Place(unsafe { sys::partmem_heap_place(self.0.get(), at) })
+        Place(unsafe { sys::partmem_heap_place(self.raw.get(), at) })
     }
 }
 
@@ -85,7 +95,7 @@ impl RawHeap {
 /// # Runs
 /// With runs a request larger than a superblock gets superblocks that lie in a row in RAM. The tenant has to have the slots 0, 1,
 /// 2 .., and their superblocks have to follow each other in RAM. They do if the first calls after the boot are grants, and no
-/// grant to another tenant comes between those to this tenant.
+/// grant to another tenant comes between those to this tenant. A tenant has at most one heap with runs at a time.
 pub struct Heap<'c> {
     raw: RawHeap,
     /// A second client of the tenant, which is not public. As long as the heap lives, the first one is borrowed, or is in an
@@ -126,7 +136,7 @@ impl<'a> Deref for OwnedHeap<'a> {
 
 impl Drop for Heap<'_> {
     fn drop(&mut self) {
-        self.raw.close(self.client.machine().of(self.client.number()));
+        self.raw.close(self.client.machine(), self.client.number());
     }
 }
 
@@ -152,7 +162,7 @@ impl Drop for Piece<'_> {
 
 impl<'c> Heap<'c> {
     pub(crate) fn new(client: Client<'c>, sizes: &[u16], has_runs: bool) -> Result<Heap<'c>, Error> {
-        let raw = RawHeap::new(client.machine().of(client.number()), sizes, has_runs)?;
+        let raw = RawHeap::new(client.machine(), client.number(), sizes, has_runs)?;
         Ok(Heap { raw, client })
     }
 

@@ -262,7 +262,7 @@ pub struct Tenant(pub u32);
 pub struct Place(pub u32);
 
 impl Place {
-    /// The place of no byte, for links that lead nowhere.
+    /// A place for links that lead nowhere: no block and no object begins there. A tenant that has all 4 GiB has a byte there.
     pub const NOWHERE: Place = Place(u32::MAX);
 }
 
@@ -270,11 +270,11 @@ impl Place {
 #[derive(Clone, Copy, Debug, PartialEq, Eq)]
 #[repr(C)]
 pub struct Config {
-    /// 3 to 8. A superblock has 2^order frames of 4096 bytes.
+    /// 3 to 10. A superblock has 2^order frames of 4096 bytes.
     pub order: u32,
-    /// How many superblocks there are: 1 to 256.
+    /// How many superblocks there are: 1 to 4096, and at most 4 GiB together.
     pub superblocks: u32,
-    /// How many tenants there are: 1 to 64.
+    /// How many tenants there are: 1 to 255.
     pub tenants: u32,
 }
 
@@ -318,6 +318,6 @@ pub struct Figures {
     pub orders: u32,
     /// How many rows of `cache` are used.
     pub caches: u32,
-    pub order: [OrderRow; 9],
+    pub order: [OrderRow; 11],
     pub cache: [CacheRow; 32],
 }

@@ -13,7 +13,6 @@ use core::sync::atomic::{AtomicU64, Ordering};
 use core::{fmt, slice};
 
 const MAX_PATTERN: usize = 16;
-const MAX_TENANTS: usize = 64;
 static STAMPS: AtomicU64 = AtomicU64::new(0);
 
 /// Returns a number that it has never returned before.
@@ -82,20 +81,27 @@ pub struct Cache {
     pub(crate) number: u32,
 }
 
+/// What this crate knows of a tenant. It is used under the lock of the tenant.
+#[repr(C)]
+pub(crate) struct Record {
+    /// The tenant's stamp. A reset gives the tenant a new one, so that older handles are refused.
+    stamp: Cell<u64>,
+    /// How many moves of the tenant have been requested, including refused ones. If a handle has the same number, its address is
+    /// right.
+    moves: Cell<u64>,
+    /// Whether a heap has the tenant's memory for runs.
+    has_runs: Cell<bool>,
+}
+
 /// A machine. Dropping it ends it, and frees the memory that [`Machine::boot`] has allocated.
 pub struct Machine {
-    /// Points to the booted `partmem_machine`. It lies in the memory of the tables, after the part that the library uses.
+    /// Points to the booted `partmem_machine`. It lies in the memory of the tables, after the part that the library uses. After it
+    /// come a [`Record`] for each tenant, and then, for each tenant, the memory for the runs of its heap: a number for each slot.
     raw: NonNull<sys::Machine>,
     config: Config,
     /// The memory that [`Machine::boot`] has allocated.
     #[cfg(feature = "std")]
     owned: Option<Region>,
-    /// The stamp of each tenant. A reset gives the tenant a new one, so that older handles are refused. An element is used under
-    /// the lock of its tenant.
-    stamps: [Cell<u64>; MAX_TENANTS],
-    /// How many moves of each tenant have been requested, including refused ones. If a handle has the same number, its address is
-    /// right. An element is used under the lock of its tenant.
-    moves: [Cell<u64>; MAX_TENANTS],
 }
 
 // SAFETY: calls may come from any thread. They need a reference, and a machine is not `Sync`, so they come one at a time. Its
@@ -107,7 +113,7 @@ impl Machine {
     /// `NoMemory`.
     ///
     /// # Panics
-    /// If the library's major version is not 2.
+    /// If the library's major version is not 3.
     #[cfg(feature = "std")]
     pub fn boot(config: Config) -> Result<Machine, Error> {
         config.check()?;
@@ -124,7 +130,7 @@ impl Machine {
     /// Boots a machine in which no superblock has an owner, in memory of the caller. Fails with `BadConfig`, `BadMemory`.
     ///
     /// # Panics
-    /// If the library's major version is not 2.
+    /// If the library's major version is not 3.
     pub fn boot_in(config: Config, memory: Memory) -> Result<Machine, Error> {
         config.check()?;
         Machine::boot_at(config, memory.region(config)?)
@@ -133,7 +139,7 @@ impl Machine {
     /// Boots a machine in a region that is large enough and aligned, and that nothing else uses.
     fn boot_at(config: Config, region: Region) -> Result<Machine, Error> {
         // SAFETY: it only returns a number.
-        assert_eq!(unsafe { sys::partmem_version() } / 10_000, 2, "the version of the library partmem");
+        assert_eq!(unsafe { sys::partmem_version() } / 10_000, 3, "the version of the library partmem");
         let memory = sys::Memory { ram: region.ram.as_ptr(), tables: region.tables.as_ptr() };
         // SAFETY: the tables have space for the `partmem_machine` at this offset, a multiple of 16 after the library's part. It
         // has no machine while it is all zeroes.
@@ -144,15 +150,52 @@ impl Machine {
         };
         // SAFETY: the machine stays where it is until the region is free again. RAM and tables have the sizes of this config.
         done(alone(|| unsafe { sys::partmem_boot_in(raw.as_ptr(), &config, &memory) }))?;
-        let stamps = [(); MAX_TENANTS].map(|()| Cell::new(new_stamp()));
-        Ok(Machine {
+        let machine = Machine {
             raw,
             config,
             #[cfg(feature = "std")]
             owned: None,
-            stamps,
-            moves: [(); MAX_TENANTS].map(|()| Cell::new(0)),
-        })
+        };
+        for tenant in 0..config.tenants as usize {
+            let record = Record { stamp: Cell::new(new_stamp()), moves: Cell::new(0), has_runs: Cell::new(false) };
+            // SAFETY: the tables have space for a record of each tenant.
+            unsafe { machine.records().add(tenant).write(record) };
+        }
+        Ok(machine)
+    }
+
+    /// Returns where the records of the tenants lie. Their addresses are multiples of 8, as that of the `partmem_machine` is.
+    fn records(&self) -> *mut Record {
+        // SAFETY: the tables go on after the `partmem_machine`.
+        unsafe { self.raw.as_ptr().add(1).cast() }
+    }
+
+    /// Returns the record of a tenant, if the machine has this tenant.
+    fn known(&self, tenant: Tenant) -> Option<&Record> {
+        // SAFETY: `boot_at` has written a record for each tenant, and nothing else uses this memory until the machine ends.
+        (tenant.0 < self.config.tenants).then(|| unsafe { &*self.records().add(tenant.0 as usize) })
+    }
+
+    /// Returns the record of a tenant of this machine.
+    fn record(&self, tenant: Tenant) -> &Record {
+        self.known(tenant).expect("the machine has this tenant")
+    }
+
+    /// Returns the memory for the runs of a tenant's heap, and the number of its elements. The heap has it until `leave_runs`.
+    /// Fails with `BadMemory` if another heap has it.
+    pub(crate) fn take_runs(&self, tenant: Tenant) -> Result<(*mut u16, u32), Error> {
+        if self.record(tenant).has_runs.replace(true) {
+            return Err(Error::BadMemory);
+        }
+        let (tenants, slots) = (self.config.tenants as usize, self.config.superblocks);
+        // SAFETY: the tables have space for the runs of each tenant, after the records.
+        let at = unsafe { self.records().add(tenants).cast::<u16>().add(tenant.0 as usize * slots as usize) };
+        Ok((at, slots))
+    }
+
+    /// Notes that no heap has the memory for the runs of the tenant any more.
+    pub(crate) fn leave_runs(&self, tenant: Tenant) {
+        self.record(tenant).has_runs.set(false);
     }
 
     /// Returns the tenant as the library knows it.
@@ -163,7 +206,7 @@ impl Machine {
     /// Returns the tenant, if `stamp` is its current stamp. Fails with `Stale` if it is not: then the handle or [`Cache`] with
     /// this stamp belongs to another machine or is from before a reset, or the `Cache` was destroyed.
     fn check(&self, tenant: Tenant, stamp: u64) -> Result<sys::Tenant, Error> {
-        let same = self.stamps.get(tenant.0 as usize).map(Cell::get) == Some(stamp);
+        let same = self.known(tenant).map(|record| record.stamp.get()) == Some(stamp);
         same.then_some(self.of(tenant)).ok_or(Error::Stale)
     }
 
@@ -188,7 +231,7 @@ impl Machine {
     /// # Safety
     /// Nothing of the tenant is lent.
     pub(crate) unsafe fn move_shared(&self, tenant: Tenant, slot: u32) -> Result<Slot, Error> {
-        if let Some(moves) = self.moves.get(tenant.0 as usize) {
+        if let Some(Record { moves, .. }) = self.known(tenant) {
             moves.set(moves.get() + 1);
         }
         // SAFETY: as said above. The machine is booted, the call's locks are held, and the result goes to a local variable.
@@ -206,7 +249,9 @@ impl Machine {
     pub(crate) unsafe fn reset_shared(&self, tenant: Tenant) -> Result<(), Error> {
         // SAFETY: as said above. The machine is booted, and the call's locks are held.
         done(unsafe { sys::partmem_reset(self.of(tenant)) })?;
-        self.stamps[tenant.0 as usize].set(new_stamp());
+        self.record(tenant).stamp.set(new_stamp());
+        // A heap that still had them was forgotten: one that is used borrows a client, or has it.
+        self.leave_runs(tenant);
         Ok(())
     }
 
@@ -267,8 +312,8 @@ impl Machine {
 
     fn hold<Kind>(&self, tenant: Tenant, lent: sys::Lent, kind: Kind) -> Handle<Kind> {
         let sys::Lent { at, place, bytes, .. } = lent;
-        let (stamp, moves) = (self.stamps[tenant.0 as usize].get(), self.moves[tenant.0 as usize].get());
-        Handle { stamp, moves, at, tenant, place, bytes, kind }
+        let Record { stamp, moves, .. } = self.record(tenant);
+        Handle { stamp: stamp.get(), moves: moves.get(), at, tenant, place, bytes, kind }
     }
 
     /// Allocates 2^order frames. A frame has the bytes that it had when its last page block was freed. If it was in no page block
@@ -299,7 +344,7 @@ impl Machine {
         // least `bytes` bytes.
         let made: sys::Cache =
             result(|made| unsafe { sys::partmem_make_cache(of, size, align, copy.as_ptr(), bytes, made) })?;
-        Ok(Cache { stamp: self.stamps[tenant.0 as usize].get(), tenant, number: made.cache })
+        Ok(Cache { stamp: self.record(tenant).stamp.get(), tenant, number: made.cache })
     }
 
     /// Destroys a cache without live objects, and frees its slabs. The cache is stale afterwards.
@@ -347,7 +392,7 @@ impl Machine {
 
     fn address_of<Kind>(&self, handle: &Handle<Kind>) -> Result<*mut u8, Error> {
         let tenant = self.check(handle.tenant, handle.stamp)?;
-        if handle.moves == self.moves[handle.tenant.0 as usize].get() {
+        if handle.moves == self.record(handle.tenant).moves.get() {
             Ok(handle.at)
         } else {
             self.address(tenant, handle.place, handle.bytes)
@@ -365,7 +410,7 @@ impl Machine {
     /// Lends the bytes of a block or an object for reading and writing.
     pub fn lend_mut<'a, Kind>(&'a self, handle: &'a mut Handle<Kind>) -> Result<&'a mut [u8], Error> {
         handle.at = self.address_of(handle)?;
-        handle.moves = self.moves[handle.tenant.0 as usize].get();
+        handle.moves = self.record(handle.tenant).moves.get();
         // SAFETY: as in `lend`. Nobody else has these bytes: no other handle leads to them, and `lend_at` needs the machine
         // unborrowed.
         Ok(unsafe { slice::from_raw_parts_mut(handle.at, handle.bytes as usize) })

@@ -1,5 +1,5 @@
 //! The memory of a machine: its sizes, and statics that hold it.
-use crate::{sys, Config, Error};
+use crate::{machine::Record, sys, Config, Error};
 use core::cell::UnsafeCell;
 use core::mem::{size_of, MaybeUninit};
 use core::ptr::NonNull;
@@ -7,6 +7,7 @@ use core::sync::atomic::{AtomicBool, Ordering};
 use core::{fmt, hint};
 
 const FRAME_BYTES: usize = 4096;
+const MAX_FRAMES: u32 = 1 << 20;
 const TABLE_ALIGN: usize = 16;
 
 /// Returns how many bytes an allocation in the tables takes: whole pieces of 128 bytes.
@@ -21,8 +22,9 @@ const fn set_size(numbers: usize) -> usize {
 
 impl Config {
     pub(crate) fn check(&self) -> Result<(), Error> {
-        let fits =
-            (3..=8).contains(&self.order) && (1..=256).contains(&self.superblocks) && (1..=64).contains(&self.tenants);
+        let fits = (3..=10).contains(&self.order)
+            && (1..=4096.min(MAX_FRAMES >> self.order)).contains(&self.superblocks)
+            && (1..=255).contains(&self.tenants);
         fits.then_some(()).ok_or(Error::BadConfig)
     }
 
@@ -80,9 +82,11 @@ impl Config {
         (self.library_bytes() + TABLE_ALIGN - 1) / TABLE_ALIGN * TABLE_ALIGN
     }
 
-    /// Returns how many bytes of tables a machine has: those of the header's `PARTMEM_TABLE_BYTES`, and 24 for this crate.
+    /// Returns how many bytes of tables a machine has: those of the header's `PARTMEM_TABLE_BYTES`, and for this crate 24, 24 for
+    /// each tenant, and 2 for each slot of a tenant.
     pub const fn table_bytes(self) -> usize {
-        self.machine_offset() + size_of::<sys::Machine>()
+        let of_tenant = size_of::<Record>() + size_of::<u16>() * self.superblocks as usize;
+        self.machine_offset() + size_of::<sys::Machine>() + self.tenants as usize * of_tenant
     }
 }
 

@@ -36,7 +36,8 @@ pub struct Cache {
 pub struct HeapConfig {
     pub sizes: *const u16,
     pub count: u32,
-    pub has_runs: u32,
+    pub slots: u32,
+    pub runs: *mut u16,
 }
 
 /// A heap. Only the library writes to it. Between calls it may be moved.
@@ -44,6 +45,7 @@ pub struct HeapConfig {
 pub struct Heap {
     tenant: Tenant,
     base: *mut u8,
+    runs: *mut u16,
     numbers: [u32; 3],
     sizes: [u16; MAX_CLASSES],
     aligns: [u16; MAX_CLASSES],
@@ -51,7 +53,6 @@ pub struct Heap {
     pub cache_of: [u8; MAX_CLASSES],
     class_in: [u8; 32],
     class_of: [u8; 257],
-    run: [u16; 256],
 }
 
 pub const MAX_CLASSES: usize = 24;
@@ -59,8 +60,8 @@ pub const MAX_CLASSES: usize = 24;
 // The sizes that tests/use-from-c/layout.c checks in the headers.
 const _: () = assert!(size_of::<Machine>() == 24 && size_of::<Tenant>() == 16 && size_of::<Lent>() == 24);
 const _: () = assert!(size_of::<Config>() == 12 && size_of::<Slot>() == 8 && size_of::<Cache>() == 20);
-const _: () = assert!(size_of::<Memory>() == 16 && size_of::<HeapConfig>() == 16 && size_of::<Heap>() == 960);
-const _: () = assert!(size_of::<Figures>() == 740);
+const _: () = assert!(size_of::<Memory>() == 16 && size_of::<HeapConfig>() == 24 && size_of::<Heap>() == 456);
+const _: () = assert!(size_of::<Figures>() == 756);
 
 impl Heap {
     /// Returns a heap that is all 0, as after a refused initialisation.

@@ -115,7 +115,7 @@ impl<'a> Client<'a> {
 
     /// Returns a heap of the tenant with classes of these sizes, in bytes: up to 24 rising multiples of 16, up to 4096. Without
     /// sizes it has the default classes. If `has_runs` is true, it has [runs](Heap#runs). Fails with `BadConfig`; with runs also
-    /// with `BadMemory`.
+    /// with `BadMemory`, also if another heap of the tenant has runs.
     pub fn heap_with(&self, sizes: &[u16], has_runs: bool) -> Result<Heap<'_>, Error> {
         Heap::new(self.again(), sizes, has_runs)
     }

@@ -21,12 +21,12 @@ pub struct Workers<'a>(Clients<'a>);
 // SAFETY: `Machine` is not `Sync` because calls of one tenant, or of the administrator, come one at a time. Here they do: as long
 // as the steward lives, only the machine's parts use the machine, and no other part makes a call of the administrator. Each call
 // needs `&mut` of the steward and a reference to the worker that it names, which is not `Sync`, so this thread has both. It uses the
-// elements of this tenant in `stamps` and `moves`, and no other cell of the machine.
+// record of this tenant and the memory for its runs, and no other cell of the machine.
 unsafe impl Send for Steward<'_> {}
 
 // SAFETY: as above. A worker is its tenant's only one. What borrows it, such as a heap, stays on its thread, since neither a
-// worker nor a client is `Sync`. Each call is with its tenant, and uses the elements of this tenant in `stamps` and `moves`. No
-// other client can come into a worker: it derefs to `&Client`, and not to `&mut Client`.
+// worker nor a client is `Sync`. Each call is with its tenant, and uses the record of this tenant and the memory for its runs.
+// No other client can come into a worker: it derefs to `&Client`, and not to `&mut Client`.
 unsafe impl Send for Worker<'_> {}
 
 impl<'a> Steward<'a> {

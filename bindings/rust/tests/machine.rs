@@ -44,7 +44,8 @@ fn an_object_has_the_pattern_and_then_what_was_in_it() {
 
 #[test]
 fn mistakes_and_refusals_have_their_error() {
-    for (order, superblocks, tenants) in [(2, 1, 1), (9, 1, 1), (3, 0, 1), (3, 257, 1), (3, 1, 0), (3, 1, u32::MAX)] {
+    let refused = [(2, 1, 1), (11, 1, 1), (3, 0, 1), (3, 4097, 1), (9, 2049, 1), (10, 1025, 1), (3, 1, 0), (3, 1, 256)];
+    for (order, superblocks, tenants) in refused.into_iter().chain([(u32::MAX, 1, 1), (3, 1, u32::MAX)]) {
         assert_eq!(Machine::boot(Config { order, superblocks, tenants }).unwrap_err(), Error::BadConfig);
     }
     let (mut machine, mut cache) = booted(4);

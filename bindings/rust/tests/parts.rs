@@ -214,7 +214,14 @@ fn a_heap_has_classes_and_runs_of_its_user() {
         let large = || MaybeUninit::<[u8; 60_000]>::uninit();
         assert_eq!(client.heap().unwrap().boxed(large()).map(drop), Err(Error::NoMemory));
         client.reap().unwrap();
-        assert_eq!(client.heap_with(&[], true).unwrap().boxed(large()).map(drop), Ok(()));
+        for _ in 0..2 {
+            let heap = client.heap_with(&[], true).unwrap();
+            assert_eq!(client.heap_with(&[], true).unwrap_err(), Error::BadMemory);
+            assert_eq!(heap.boxed(large()).map(drop), Ok(()));
+        }
+        assert_eq!(client.heap_with(&[8], true).unwrap_err(), Error::BadConfig);
+        forget(client.heap_with(&[], true).unwrap());
+        assert_eq!(client.heap_with(&[], true).unwrap_err(), Error::BadMemory);
         administrator.move_slot(&mut other, 0).unwrap();
         assert_eq!(other.heap_with(&[], true).unwrap_err(), Error::BadMemory);
     });
@@ -261,16 +268,20 @@ fn memory_that_is_too_small_or_not_aligned_is_refused() {
     assert_eq!(machine.lend(&machine.alloc(Tenant(0), 0).unwrap()).unwrap()[..], [0; 4096]);
 }
 
-/// The sum of `PARTMEM_TABLE_BYTES` over all sizes of a machine, each rounded up to a multiple of 16. tests/rust/run checks it
-/// with the header.
-const TABLES_OF_ALL: usize = 111_082_618_880;
+/// The sum of `PARTMEM_TABLE_BYTES` over machines of each order and each number of superblocks, each rounded up to a multiple of
+/// 16. tests/rust/run checks it with the header.
+const TABLES_OF_ALL: usize = 3_021_428_295_168;
 
 #[test]
 fn tables_have_the_size_of_the_header_and_of_a_machine() {
     let mut sum = 0;
-    for order in 3..=8 {
-        for superblocks in 1..=256 {
-            sum += (1..=64).map(|tenants| Config { order, superblocks, tenants }.table_bytes() - 24).sum::<usize>();
+    for order in 3..=10 {
+        for superblocks in 1..=4096.min((1 << 20) >> order) {
+            for tenants in (1..=64).chain([65, 128, 129, 255]).filter(|tenants| superblocks <= 256 || tenants % 16 == 1) {
+                let config = Config { order, superblocks, tenants };
+                let of_tenant = 24 + 2 * superblocks as usize;
+                sum += config.table_bytes() - 24 - tenants as usize * of_tenant;
+            }
         }
     }
     assert_eq!(sum, TABLES_OF_ALL);
