@@ -255,7 +255,7 @@ fn memory_that_is_too_small_or_not_aligned_is_refused() {
         assert_eq!(Machine::boot_in(CONFIG, Memory { ram, tables }).unwrap_err(), Error::BadMemory);
     }
     let memory = || Memory { ram: at(0, ram), tables: at(16, tables) };
-    let larger = Config { tenants: 65, ..CONFIG };
+    let larger = Config { tenants: 256, ..CONFIG };
     assert_eq!(Machine::boot_in(larger, memory()).unwrap_err(), Error::BadConfig);
     assert!(Machine::boot_in(CONFIG, memory()).is_ok());
     let bytes = |bytes: usize| {
