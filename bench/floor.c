@@ -29,8 +29,12 @@
 #define RARE static __attribute__((noinline, cold))
 
 enum {
+    /* The largest sizes of a machine, which are those of the program `partmem`. A summary has one word for 64 words of groups. */
+    MAX_ORDER = 8,
+    MAX_SUPERBLOCKS = 256,
+    MAX_TENANTS = 64,
     GROUP = 64, /* frames of a group: each has a bit in the group's words */
-    MAX_FRAMES = PARTMEM_MAX_SUPERBLOCKS << PARTMEM_MAX_ORDER,
+    MAX_FRAMES = MAX_SUPERBLOCKS << MAX_ORDER,
     MAX_GROUPS = MAX_FRAMES / GROUP,
     FRAME_BYTES = PARTMEM_FRAME_BYTES,
     SMALL_BYTES = 512, /* slabs with smaller chunks have their record in the frame */
@@ -42,7 +46,7 @@ enum {
 
 /* The bits of 64 frames of a tenant. A free block, a partial slab or an empty slab has its bit at its first frame. */
 struct group {
-    uint64_t free[PARTMEM_MAX_ORDER + 1]; /* by order */
+    uint64_t free[MAX_ORDER + 1]; /* by order */
     uint64_t partial[PARTMEM_MAX_CACHES]; /* by cache */
     uint64_t empty[PARTMEM_MAX_CACHES];
 };
@@ -80,9 +84,9 @@ struct cache {
 
 struct tenant {
     uint32_t orders; /* bit k is 1 if a block of order k is free */
-    struct summary free[PARTMEM_MAX_ORDER + 1];
-    uintptr_t base[PARTMEM_MAX_SUPERBLOCKS]; /* by slot: the address of a place minus the place; 0 if the slot is not held */
-    bool is_cleared[PARTMEM_MAX_SUPERBLOCKS];
+    struct summary free[MAX_ORDER + 1];
+    uintptr_t base[MAX_SUPERBLOCKS]; /* by slot: the address of a place minus the place; 0 if the slot is not held */
+    bool is_cleared[MAX_SUPERBLOCKS];
     struct cache *cache[PARTMEM_MAX_CACHES]; /* NULL if there is no such cache */
     struct cache caches[PARTMEM_MAX_CACHES];
     struct group group[MAX_GROUPS];
@@ -92,8 +96,8 @@ struct tenant {
 struct machine {
     uint8_t *ram;
     uint32_t order, superblocks, tenants;
-    bool is_owned[PARTMEM_MAX_SUPERBLOCKS];
-    struct tenant *tenant[PARTMEM_MAX_TENANTS];
+    bool is_owned[MAX_SUPERBLOCKS];
+    struct tenant *tenant[MAX_TENANTS];
 };
 
 /* ---- Bits ---------------------------------------------------------------------------------------------------------------- */
@@ -584,8 +588,8 @@ partmem_status partmem_boot(partmem_machine *machine, const partmem_config *conf
 {
     const uint32_t order = config->order, superblocks = config->superblocks, tenants = config->tenants;
     if (machine->held[0] != NULL) return PARTMEM_HAS_MACHINE;
-    if (order < PARTMEM_MIN_ORDER || order > PARTMEM_MAX_ORDER || superblocks == 0 || superblocks > PARTMEM_MAX_SUPERBLOCKS ||
-        tenants == 0 || tenants > PARTMEM_MAX_TENANTS) {
+    if (order < PARTMEM_MIN_ORDER || order > MAX_ORDER || superblocks == 0 || superblocks > MAX_SUPERBLOCKS ||
+        tenants == 0 || tenants > MAX_TENANTS) {
         return PARTMEM_BAD_CONFIG;
     }
     struct machine *made = machine->held[0] = calloc(1, sizeof *made);

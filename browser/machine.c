@@ -8,7 +8,8 @@
 
 #define WASM_PAGE_BYTES 65536u
 
-enum { MAX_LINE_BYTES = 65536 };
+/* The largest sizes of a machine are those of the program `partmem`. */
+enum { MAX_LINE_BYTES = 65536, MAX_ORDER = 8, MAX_SUPERBLOCKS = 256, MAX_TENANTS = 64 };
 
 extern unsigned char __heap_base; /* by the linker: the first byte after stack and variables */
 
@@ -55,7 +56,7 @@ static int has_memory(size_t bytes)
 partmem_status boot(uint32_t order, uint32_t superblocks, uint32_t tenants)
 {
     const partmem_config config = {order, superblocks, tenants};
-    if (order > PARTMEM_MAX_ORDER || superblocks > PARTMEM_MAX_SUPERBLOCKS || tenants > PARTMEM_MAX_TENANTS)
+    if (order > MAX_ORDER || superblocks > MAX_SUPERBLOCKS || tenants > MAX_TENANTS)
         return PARTMEM_BAD_CONFIG; /* before its sizes are computed */
     const size_t heap = (size_t)&__heap_base;
     const size_t ram = (heap + PARTMEM_FRAME_BYTES - 1) / PARTMEM_FRAME_BYTES * PARTMEM_FRAME_BYTES;

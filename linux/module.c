@@ -404,7 +404,7 @@ static int __init start(void)
 	if (partmem_version() / 10000 != PARTMEM_VERSION / 10000 || !boot_cpu_has(X86_FEATURE_POPCNT))
 		return -ENODEV; /* the library requires x86-64-v2 */
 	if (order < PARTMEM_MIN_ORDER || order > PARTMEM_MAX_ORDER || superblocks < 1 || superblocks > PARTMEM_MAX_SUPERBLOCKS ||
-	    partitions < 1 || partitions > PARTMEM_MAX_TENANTS)
+	    superblocks > PARTMEM_MAX_FRAMES >> order || partitions < 1 || partitions > PARTMEM_MAX_TENANTS)
 		return -EINVAL;
 	unit = PARTMEM_RAM_BYTES(order, 1);
 	pages = superblocks << order;
