@@ -13,7 +13,7 @@ OVER_PROGRAMS := hostile-bytes refused-memory instructions conformance findings 
     command-lines partcheck examples
 #   the library for C, and some of them the programs too:
 OVER_LIBRARY := same-path kernel-archives objtool in-place heap watched parallel cpp use-from-c pasted demo-kernel linux rust \
-    other-targets side-by-side costs stack install browser-page
+    other-targets wide-machines side-by-side costs stack install browser-page
 CHECKS := $(addprefix check-,$(FROM_SOURCES) $(OVER_PROGRAMS) $(OVER_LIBRARY))
 .PHONY: list list-tests try unproved quick prove test check tools proved library browser install uninstall release bench \
     soak $(CHECKS)
