@@ -14,7 +14,7 @@ use model_core::limits::{MAX_ORDER, MAX_SUPERBLOCKS, MAX_TENANTS, MIN_ORDER};
 use std::alloc::{AllocError, Global};
 
 /// The version that `--version` prints.
-const VERSION: &str = "2.0.0";
+const VERSION: &str = "3.0.0";
 
 /// The texts of a program that runs a trace: its name, its help and its messages.
 #[derive(Clone, Copy, Debug)]
