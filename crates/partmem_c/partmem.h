@@ -14,8 +14,8 @@
  * kept, the hardware, and time. The last comment of this file says each exactly.
  *
  *     frame       4096 bytes
- *     superblock  2^order frames of RAM. Numbered from 0 in a machine, which has at most 4 GiB: order 3 to 10, superblocks 1 to
- *                 4096, tenants 1 to 255.
+ *     superblock  2^order frames of RAM: order 3 to 10, superblocks 1 to 4096, tenants 1 to 255, and at most 4 GiB of RAM.
+ *                 Numbered from 0 in a machine.
  *     slot        where a tenant holds a superblock. Numbered from 0 in a tenant, who cannot tell which superblock it is.
  *     place       the number of a byte of a tenant. The places of slot s begin with s * (4096 << order). Blocks and objects are
  *                 named by the place of their first byte. A move changes addresses, but no place.
@@ -602,7 +602,8 @@ PARTMEM_CHECKED partmem_status partmem_line(partmem_machine *machine, const char
  *     bytes.]
  * 11. Mapping. Page tables map only page blocks, as partmem_alloc and partmem_lend_block return them. [An object of 4096 bytes
  *     fills a frame. Nothing unmaps it at the give, and the user keeps a frame that later belongs to another tenant.] A page of 16
- *     or 64 KiB is mapped only if it lies in one page block: RAM begins at such a page, superblocks and blocks are as large.
+ *     or 64 KiB, or of 2 MiB, is mapped only if it lies in one page block: RAM begins at such a page, superblocks and blocks are
+ *     as large.
  * 12. Unmapping. Before a free, reset, move or end, not after it, pages are unmapped and flushed on every processor, and devices
  *     stopped. [In between, the tenant uses memory of another.]
  * 13. Reused numbers. A reset does not revoke the handles of a client. If a tenant number passes to a new client, handles carry
