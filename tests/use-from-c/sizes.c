@@ -1,12 +1,15 @@
 /* For each order, boots machines with each number of superblocks, then with each number of tenants, then with every tenth number
  * of superblocks combined with every third number of tenants. Sizes outside the ranges have to be refused. Checks what each
  * machine reports about itself, and that a call writes no byte that it may not write. partmem_end has to leave zeroes in the
- * partmem_machine. Then boots each combination of sizes in tables of the size that PARTMEM_TABLE_BYTES says. Also refuses each
- * allocation of two boots in turn, so it is linked with library_memory.c. */
+ * partmem_machine. Then boots each combination of sizes up to order 8, 256 superblocks and 64 tenants in tables of the size that
+ * PARTMEM_TABLE_BYTES says, and does all this with larger sizes too. Also refuses each allocation of three boots in turn, so it is
+ * linked with library_memory.c. */
+#define _DEFAULT_SOURCE /* mmap without a file */
 #include <stdbool.h>
 #include <stdio.h>
 #include <stdlib.h>
 #include <string.h>
+#include <sys/mman.h>
 
 #include "library_memory.h"
 #include "partmem.h"
@@ -147,10 +150,34 @@ static void use_in_place(partmem_machine *machine, uint32_t order, uint32_t supe
     check(is_done && fence.inside.figures.frames == superblocks << order, "the figures of a tenant", order, superblocks, tenants);
 }
 
+/* Checks that on a machine of more than 256 superblocks the line `admin pool` is refused with a buffer that is large enough for
+ * all other lines, or one byte too small for this line, and that its reply has a line for each superblock and one before them. */
+static void look_at_long_text(partmem_machine *machine, uint32_t superblocks, uint32_t tenants)
+{
+    static char text[(1 + PARTMEM_MAX_SUPERBLOCKS) * 256 + 1];
+    const size_t needed = ((size_t)superblocks + 1) * 256, few[] = {PARTMEM_LINE_BUFFER_BYTES, needed - 1};
+    size_t written = 1, lines = 0;
+    memset(text, UNTOUCHED, sizeof text);
+    for (size_t i = 0; i < LEN(few); i++) {
+        partmem_status status = partmem_line(machine, "admin pool", 10, text, few[i], &written);
+        bool is_refused = status == PARTMEM_BUFFER_TOO_SMALL && written == 0 && (uint8_t)text[0] == UNTOUCHED;
+        check(is_refused, "a buffer too small for the table of owners", 0, superblocks, tenants);
+    }
+    check(partmem_line(machine, "", 0, text, few[0], &written) == PARTMEM_DONE, "an empty line", 0, superblocks, tenants);
+    partmem_status status = partmem_line(machine, "admin pool", 10, text, needed, &written);
+    for (size_t i = 0; i < written; i++) lines += text[i] == '\n';
+    bool is_kept = written <= needed && (uint8_t)text[written] == UNTOUCHED && (uint8_t)text[needed] == UNTOUCHED;
+    check(status == PARTMEM_DONE && is_kept && lines == superblocks + 1, "the long table of owners", 0, superblocks, tenants);
+}
+
 /* Checks that the text of the reply to `admin pool` has a line for each superblock and one before them, and that the call writes
  * only the number of bytes that it returns. */
 static void look_at_text(partmem_machine *machine, uint32_t superblocks, uint32_t tenants)
 {
+    if (superblocks > 256) {
+        look_at_long_text(machine, superblocks, tenants);
+        return;
+    }
     memset(&fence, UNTOUCHED, sizeof fence);
     memset(&buffer, UNTOUCHED, sizeof buffer);
     char *text = (char *)buffer.inside.bytes;
@@ -187,14 +214,17 @@ static void refuse_sizes(uint32_t order, uint32_t superblocks, uint32_t tenants)
 
 static int try_edges(void)
 {
-    static const uint32_t orders[] = {3, 8, 0, 1, 2, 9, 10, 31, 32, 64, 259, 65539, UINT32_MAX};
-    static const uint32_t superblocks[] = {1, 256, 0, 257, 258, 512, 65535, 65536, 65537, 65792, UINT32_MAX};
-    static const uint32_t tenants[] = {1, 64, 0, 65, 66, 128, 255, 256, 257, 320, 65537, UINT32_MAX};
+    static const uint32_t orders[] = {3, 10, 0, 1, 2, 11, 12, 31, 32, 64, 259, 65539, UINT32_MAX};
+    static const uint32_t superblocks[] = {1, 4096, 0, 4097, 4098, 8192, 65535, 65536, 65537, 69632, UINT32_MAX};
+    static const uint32_t tenants[] = {1, 255, 0, 256, 257, 320, 511, 512, 65537, UINT32_MAX};
     int refused = 0;
+    for (uint32_t order = 9; order <= PARTMEM_MAX_ORDER; order++, refused++) {
+        refuse_sizes(order, (PARTMEM_MAX_FRAMES >> order) + 1, 1);
+    }
     for (size_t i = 0; i < LEN(orders); i++)
         for (size_t j = 0; j < LEN(superblocks); j++)
             for (size_t k = 0; k < LEN(tenants); k++)
-                if (i > 1 || j > 1 || k > 1) {
+                if (i > 1 || j > 1 || k > 1 || (i == 1 && j == 1)) {
                     refuse_sizes(orders[i], superblocks[j], tenants[k]);
                     refused++;
                 } else {
@@ -223,7 +253,16 @@ static long refuse_each(uint32_t order, uint32_t superblocks, uint32_t tenants)
     }
 }
 
-/* Boots these sizes in tables of PARTMEM_TABLE_BYTES, behind which no byte may change, and lends the first frame. */
+/* Returns how many bytes of the tables the boot has left free. It is the fourth word of the `struct state` of memory.c. */
+static size_t left_after_boot(const partmem_machine *machine)
+{
+    size_t words[4];
+    memcpy(words, machine->held[2], sizeof words);
+    return words[3];
+}
+
+/* Boots these sizes in tables of PARTMEM_TABLE_BYTES. They have to be used up, and no byte behind them may change. Lends the first
+ * frame. */
 static void boot_in_tables(uint32_t order, uint32_t superblocks, uint32_t tenants, uint8_t *ram, uint8_t *tables)
 {
     const size_t bytes = PARTMEM_TABLE_BYTES(order, superblocks, tenants);
@@ -236,6 +275,7 @@ static void boot_in_tables(uint32_t order, uint32_t superblocks, uint32_t tenant
     tables[bytes] = UNTOUCHED;
     bool is_booted = partmem_boot_in(&machine, &config, &memory) == PARTMEM_DONE && tables[bytes] == UNTOUCHED;
     check(is_booted, "a boot in tables of this size", order, superblocks, tenants);
+    check(left_after_boot(&machine) == 0, "tables that are used up", order, superblocks, tenants);
     bool is_lent = partmem_grant(last, &slot) == PARTMEM_DONE && partmem_alloc(last, 0, &lent) == PARTMEM_DONE && lent.at == ram;
     check(is_lent, "the first frame", order, superblocks, tenants);
     bool is_last = partmem_superblock_address(&machine, superblocks - 1) == ram + PARTMEM_RAM_BYTES(order, superblocks - 1);
@@ -243,20 +283,46 @@ static void boot_in_tables(uint32_t order, uint32_t superblocks, uint32_t tenant
     check(partmem_end(&machine) == PARTMEM_DONE && tables[bytes] == UNTOUCHED, "its end", order, superblocks, tenants);
 }
 
-/* Boots each combination of sizes, and returns how many there are. */
-static int boot_each(void)
+/* Boots each combination of sizes up to order 8, 256 superblocks and 64 tenants, and returns how many there are. */
+static int boot_each(uint8_t *ram, uint8_t *tables)
 {
-    uint8_t *ram = aligned_alloc(PARTMEM_FRAME_BYTES, PARTMEM_RAM_BYTES(8, 256));
-    uint8_t *tables = malloc(PARTMEM_TABLE_BYTES(8, 256, 64) + 1);
     int booted = 0;
-    check(ram && tables, "no memory", 8, 256, 64);
     for (uint32_t order = 3; order <= 8; order++)
         for (uint32_t superblocks = 1; superblocks <= 256; superblocks++)
             for (uint32_t tenants = 1; tenants <= 64; tenants++, booted++)
                 boot_in_tables(order, superblocks, tenants, ram, tables);
-    free(tables);
-    free(ram);
     return booted;
+}
+
+/* Returns whether a term of PARTMEM_TABLE_BYTES changes by much at this number of superblocks, or at one beside it. */
+static bool is_at_step(uint32_t superblocks)
+{
+    const uint32_t before = superblocks - 1;
+    return superblocks % 256 < 2 || !(superblocks & before) || !(before & (before - 1)) || !(superblocks & (superblocks + 1));
+}
+
+/* Boots larger machines, and returns how many: each order with the numbers of superblocks at which a term of PARTMEM_TABLE_BYTES
+ * steps, and the numbers beside them; then each number of superblocks, and each number of tenants. */
+static int boot_wide(uint8_t *ram, uint8_t *tables)
+{
+    static const uint32_t tenants[] = {1, 65, 255, 64, 129, 128};
+    uint32_t booted = 0;
+    for (uint32_t order = 3; order <= PARTMEM_MAX_ORDER; order++)
+        for (uint32_t superblocks = 1; superblocks <= 4096 && superblocks <= PARTMEM_MAX_FRAMES >> order; superblocks++)
+            if (is_at_step(superblocks)) boot_in_tables(order, superblocks, tenants[booted++ % LEN(tenants)], ram, tables);
+    for (uint32_t superblocks = 257; superblocks < 4096; superblocks++, booted++) boot_in_tables(3, superblocks, 1, ram, tables);
+    for (uint32_t number = 65; number <= PARTMEM_MAX_TENANTS; number++, booted += 2) {
+        boot_in_tables(3, 3, number, ram, tables);
+        boot_in_tables(9, 1, number, ram, tables);
+    }
+    return (int)booted;
+}
+
+static uint8_t *address_space(size_t bytes)
+{
+    uint8_t *at = mmap(NULL, bytes, PROT_READ | PROT_WRITE, MAP_PRIVATE | MAP_ANONYMOUS | MAP_NORESERVE, -1, 0);
+    check(at != MAP_FAILED, "no address space", 10, 1024, 255);
+    return at;
 }
 
 int main(void)
@@ -273,10 +339,14 @@ int main(void)
             for (uint32_t tenants = 3; tenants <= 63; tenants += 3, booted++) boot_and_end(order, superblocks, tenants);
         }
     }
-    int refused = try_edges(), booted_in = boot_each();
-    long small = refuse_each(3, 2, 2), widest = refuse_each(8, 256, 64);
-    printf("%d sizes boot and end, %d are refused, and all %d boot in memory of their size; "
-           "%ld allocations of a small boot refused in turn, and %ld of the widest\n",
-           booted, refused, booted_in, small, widest);
+    static const uint32_t wide[][3] = {{9, 1, 1},    {9, 17, 255}, {10, 1, 255}, {10, 65, 65}, {3, 257, 65},
+                                       {3, 4096, 3}, {4, 1000, 9}, {8, 300, 70}, {9, 256, 2},  {5, 513, 129}};
+    for (size_t i = 0; i < LEN(wide); i++, booted++) boot_and_end(wide[i][0], wide[i][1], wide[i][2]);
+    uint8_t *ram = address_space(PARTMEM_RAM_BYTES(10, 1024)), *tables = address_space(PARTMEM_TABLE_BYTES(8, 4096, 255) + 1);
+    int refused = try_edges(), booted_in = boot_each(ram, tables), booted_wide = boot_wide(ram, tables);
+    long small = refuse_each(3, 2, 2), large = refuse_each(8, 256, 64), wider = refuse_each(3, 257, 65);
+    printf("%d sizes boot and end, %d are refused, and all %d boot in memory of exactly their size, and %d larger ones; "
+           "%ld allocations of a small boot refused in turn, %ld of a large one, and %ld of a wide one\n",
+           booted, refused, booted_in, booted_wide, small, large, wider);
     return 0;
 }
