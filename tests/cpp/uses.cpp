@@ -206,8 +206,9 @@ void check_heap()
     }
     MUST(living == 0 && heap.make<std::array<char, 70000>>().code() == status::no_frames && live_frames(tenant) == 0);
     const std::uint16_t classes[] = {64, 2048};
-    std::uint16_t runs[4];
-    MUST(heap.open(tenant, {classes, 2, 4, runs}) == status::done && heap.try_allocate(70000));
+    std::uint16_t runs[8];
+    MUST(heap.open(tenant, {classes, 2, 7, runs}) == status::bad_memory);
+    MUST(heap.open(tenant, {classes, 2, 8, runs}) == status::done && heap.try_allocate(70000));
     MUST(heap.open(tenant, {classes, 25, 0, nullptr}) == status::bad_config);
     MUST(partmem_heap_malloc(none.get(), 10) && none.open(partmem::tenant()) == status::no_machine);
 }
