@@ -36,7 +36,7 @@ struct user {
 };
 
 static const uint16_t few_sizes[] = {32, 48, 512, 2048}, many_sizes[] = {16, 64, 80, 272, 1008, 4096};
-static const uint32_t slots_of_order[] = {0, 0, 0, 18, 12, 8, 5, 4, 4};
+static const uint32_t slots_of_order[] = {0, 0, 0, 18, 12, 8, 5, 4, 4, 3, 3};
 static uint32_t order, unit, slots; /* the order and the bytes of a superblock; a tenant's number of slots */
 static partmem_machine machine;
 static struct user users[USERS];
