@@ -214,6 +214,8 @@ static uint8_t *reserve(size_t bytes, int how)
     return at + 4096;
 }
 
+static size_t unit_of(uint32_t order) { return PARTMEM_RAM_BYTES(order, 1); }
+
 /* Returns how many pages of the RAM between two addresses are in memory. */
 static size_t touched(const uint8_t *from, const uint8_t *to)
 {
@@ -224,11 +226,13 @@ static size_t touched(const uint8_t *from, const uint8_t *to)
     return count;
 }
 
-/* Boots a machine with 4 GiB of address space as RAM. One tenant gets all of it. Its events allocate all superblocks but the first
- * and the last. */
+/* Boots a machine with 4 GiB of address space as RAM. One tenant gets all of it. Its events allocate all superblocks, and direct
+ * calls allocate the first and the last once more. They touch the pages of these two superblocks; if a huge page is larger than a
+ * superblock, those of the huge page. */
 static void try_address_space(uint32_t order)
 {
-    const uint8_t *ram_end = ram + WIDEST_RAM;
+    const size_t huge = unit_of(order) < HUGE ? HUGE : unit_of(order);
+    const uint8_t *ram_end = ram + WIDEST_RAM, *second = ram + huge, *next_to_last = ram_end - huge;
     partmem_request request = {PARTMEM_ALLOC, me.number, order, 0};
     partmem_slot slot;
     partmem_reply reply;
@@ -252,9 +256,9 @@ static void try_address_space(uint32_t order)
         MUST((uintptr_t)block.at % block.bytes == 0 || block.bytes > HUGE);
         MUST(partmem_free(me, 0) == PARTMEM_DONE);
     }
-    MUST(touched(ram, ram + unit) == unit / 4096 && touched(ram + unit, ram_end) == 0);
+    MUST(touched(ram, ram + unit) == unit / 4096 && touched(second, ram_end) == 0);
     MUST(partmem_alloc(me, order, &block) == PARTMEM_DONE && partmem_alloc(me, order, &last) == PARTMEM_DONE);
-    MUST(touched(ram + unit, ram_end - unit) == 0 && touched(ram_end - unit, ram_end) == unit / 4096);
+    MUST(touched(second, next_to_last) == 0 && touched(ram_end - unit, ram_end) == unit / 4096);
     uint8_t *const end_of_last = (uint8_t *)last.at + last.bytes;
     MUST(end_of_last == ram_end && last.place == (uint32_t)(WIDEST_RAM - unit));
     MUST(partmem_find_place(me, ram_end - 1, &place) == PARTMEM_DONE && place == PARTMEM_NO_PLACE);
@@ -267,9 +271,9 @@ static void try_address_space(uint32_t order)
     MUST(partmem_free(me, PARTMEM_NO_PLACE) == PARTMEM_NOT_A_BLOCK && partmem_free(me, partmem_place_of(0x100000)) != PARTMEM_DONE);
     MUST(partmem_report(me, &figures) == PARTMEM_DONE && figures.frames == PARTMEM_MAX_FRAMES && figures.free == 0);
     MUST(figures.orders == order + 1 && figures.order[order].taken == sizes.superblocks && figures.greatest == 0);
-    MUST(partmem_reset(me) == PARTMEM_DONE && touched(ram + unit, ram_end - unit) == 0);
+    MUST(partmem_reset(me) == PARTMEM_DONE && touched(second, next_to_last) == 0);
     end();
-    MUST(touched(ram + unit, ram_end - unit) == 0 && madvise(ram, WIDEST_RAM, MADV_DONTNEED) == 0);
+    MUST(touched(second, next_to_last) == 0 && madvise(ram, WIDEST_RAM, MADV_DONTNEED) == 0);
 }
 
 /* Tries 4 GiB of address space that begins at a multiple of 2 MiB. */
@@ -281,7 +285,6 @@ static void try_widest(void)
         return;
     }
     ram = at + -(uintptr_t)at % HUGE;
-    madvise(ram, WIDEST_RAM, MADV_NOHUGEPAGE); /* a huge page is touched as a whole */
     for (uint32_t order = 8; order <= LAST_ORDER; order++) try_address_space(order);
     puts("4 GiB of address space: only the pages of lent superblocks are touched");
     munmap(at, WIDEST_RAM + HUGE);
