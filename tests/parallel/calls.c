@@ -170,7 +170,7 @@ static void *work(void *worker)
 static struct worker worker_of(partmem_machine *on, uint32_t number, uint64_t seed)
 {
     struct worker it = {.tenant = {on, number}, .random = seed + number};
-    partmem_heap_config config = {NULL, 0, 0};
+    partmem_heap_config config = {NULL, 0, 0, NULL};
     partmem_cache made;
     partmem_slot slot;
     for (int i = 0; i < SLOTS; i++) MUST(partmem_grant(it.tenant, &slot) == PARTMEM_DONE);

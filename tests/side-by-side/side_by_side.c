@@ -41,6 +41,7 @@ struct caller {
     _Alignas(128) uint32_t number;
     partmem_tenant tenant;
     partmem_heap heap;
+    uint16_t runs[PARTMEM_MAX_SUPERBLOCKS];
     partmem_request request;
     partmem_reply reply;
     partmem_lent lent;
@@ -359,8 +360,10 @@ static unsigned char *last_address;
 static void begin_heap(struct caller *its)
 {
     static const uint16_t few_sizes[] = {32, 48, 512, 2048}, wrong_sizes[] = {64, 32};
-    const partmem_heap_config configs[] = {{NULL, 0, its->number % 2}, {few_sizes, LEN(few_sizes), its->number % 2},
-                                           {wrong_sizes, rarely(2) ? LEN(wrong_sizes) : PARTMEM_HEAP_MAX_CLASSES + 1, 0}};
+    const uint32_t entries = its->number % 2 ? superblocks : 0;
+    const partmem_heap_config configs[] = {{NULL, 0, entries, its->runs},
+                                           {few_sizes, LEN(few_sizes), entries, its->runs},
+                                           {wrong_sizes, rarely(2) ? LEN(wrong_sizes) : PARTMEM_HEAP_MAX_CLASSES + 1, 0, NULL}};
     const unsigned which = any(LEN(configs));
     const partmem_heap_config *const config = which == 0 && its->number % 2 == 0 ? NULL : &configs[which];
     (void)CALL(its, OF_HEAP, "heap_init", partmem_heap_init(&its->heap, its->tenant, config));
