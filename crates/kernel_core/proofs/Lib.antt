@@ -19,6 +19,7 @@ pub mod Stores
 pub mod OneHolder
 pub mod ShownWellFormed
 pub mod LookupAnswers
+pub mod Releases
 pub mod BlockAnswers
 pub mod Actions
 pub mod ActionsAnyOrder

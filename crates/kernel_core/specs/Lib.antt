@@ -11,4 +11,5 @@ pub mod Actions
 pub mod Lending
 pub mod Holders
 pub mod Lookups
+pub mod Releasing
 pub mod ActionLocks

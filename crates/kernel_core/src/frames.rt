@@ -158,7 +158,7 @@ impl Kernel {
     }
 
     /// Returns the same as `list_at`. The caller knows the superblock of the frame's slot.
-    fn list_in(&self, superblock: u16, t: u8, first: u32) -> Option<ListId>
+    pub(crate) fn list_in(&self, superblock: u16, t: u8, first: u32) -> Option<ListId>
         requires tenant { t < self.now.tenants }
         requires held { superblock_at self.now t (first / 2 ^ self.now.order) ≡ Some superblock }
         ensures { MatchOption result

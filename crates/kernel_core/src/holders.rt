@@ -46,7 +46,7 @@ impl Kernel {
 
     /// Returns the live object or live page block of tenant `t` that contains the byte at `place`, or `None` if none does.
     #[inline(always)]
-    fn holder_of(&self, t: u8, place: u32) -> Option<Holder>
+    pub(crate) fn holder_of(&self, t: u8, place: u32) -> Option<Holder>
         requires { t < self.now.tenants }
         ensures { (m : Machine) → ShowsMachine self.now t m
             → MatchOption result (in_reach m place 1 ≡ false) (IsHolder m place) }

@@ -35,6 +35,7 @@ pub mod laws;
 mod lending;
 mod lookups;
 mod pages;
+mod releasing;
 mod reporting;
 
 pub use frames::FrameKind;
