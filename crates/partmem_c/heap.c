@@ -4,6 +4,7 @@
 #include <stdbool.h>
 #include <string.h>
 
+#include "booting.h"
 #include "partmem_heap.h"
 
 enum {
@@ -124,7 +125,7 @@ static partmem_status make_cache(partmem_heap *heap, uint32_t class)
     partmem_status status = partmem_make_cache(heap->tenant, heap->size[class], align, "", 1, &made);
     if (status != PARTMEM_DONE) return status;
     heap->cache_of[class] = (uint8_t)(made.cache + 1);
-    heap->class_in[made.cache] = (uint8_t)(class + 1);
+    heap->own.bytes[made.cache] = heap->size[class];
     return PARTMEM_DONE;
 }
 
@@ -260,16 +261,16 @@ static partmem_status find_place(const partmem_heap *heap, const void *at, uint3
     return heap->tenant.machine ? partmem_find_place(heap->tenant, at, place) : PARTMEM_NO_MACHINE;
 }
 
-static bool is_own(const partmem_heap *heap, const partmem_object *object)
-{
-    const uint32_t class = heap->class_in[object->cache];
-    return class && heap->size[class - 1] == object->bytes;
-}
-
 /* Returns the entry of runs[] for a slot: 0 if the slot has none. */
 static uint32_t run_at(const partmem_heap *heap, uint32_t slot)
 {
     return slot < heap->slots ? heap->runs[slot] : 0;
+}
+
+/* Returns whether a run begins at the place, which lies in a slot of a run. */
+static bool begins_run(const partmem_heap *heap, uint32_t place)
+{
+    return run_at(heap, slot_of(heap, place)) != IN_RUN && place % superblock_bytes(heap) == 0;
 }
 
 /* Finds the piece that begins at an address. */
@@ -281,7 +282,7 @@ static partmem_status find_piece(const partmem_heap *heap, const void *at, struc
     if (status != PARTMEM_DONE) return status;
     const uint32_t superblocks = run_at(heap, slot_of(heap, place));
     if (superblocks) {
-        if (superblocks == IN_RUN || place % superblock_bytes(heap)) return PARTMEM_NOT_A_BLOCK;
+        if (!begins_run(heap, place)) return PARTMEM_NOT_A_BLOCK;
         *piece = (struct piece){PARTMEM_OF_NO_CACHE, place, (size_t)superblocks * superblock_bytes(heap)};
         return PARTMEM_DONE;
     }
@@ -289,20 +290,29 @@ static partmem_status find_piece(const partmem_heap *heap, const void *at, struc
     if (status != PARTMEM_DONE) return status;
     *piece = (struct piece){object.cache, object.place, object.bytes};
     if (object.cache == PARTMEM_OF_NO_CACHE) return object.place == place ? PARTMEM_DONE : PARTMEM_NOT_A_BLOCK;
-    return object.place == place && is_own(heap, &object) ? PARTMEM_DONE : PARTMEM_NOT_AN_OBJECT;
+    return object.place == place && heap->own.bytes[object.cache] == object.bytes ? PARTMEM_DONE : PARTMEM_NOT_AN_OBJECT;
 }
 
-static partmem_status release(partmem_heap *heap, const struct piece *piece)
+/* Frees the run that begins at the place, which lies in a slot of a run. */
+static partmem_status release_run(partmem_heap *heap, uint32_t place)
 {
-    if (piece->cache != PARTMEM_OF_NO_CACHE) return partmem_give(heap->tenant, piece->cache, piece->place);
-    const uint32_t slot = slot_of(heap, piece->place), superblocks = run_at(heap, slot);
-    partmem_status status = partmem_free(heap->tenant, piece->place);
+    const uint32_t slot = slot_of(heap, place), superblocks = run_at(heap, slot);
+    if (!begins_run(heap, place)) return PARTMEM_NOT_A_BLOCK;
+    partmem_status status = partmem_free(heap->tenant, place);
     if (status != PARTMEM_DONE) return status;
     for (uint32_t i = 0; i < superblocks; i++) {
         heap->runs[slot + i] = 0;
-        if (i > 0) (void)!partmem_free(heap->tenant, piece->place + i * superblock_bytes(heap));
+        if (i > 0) (void)!partmem_free(heap->tenant, place + i * superblock_bytes(heap));
     }
     return PARTMEM_DONE;
+}
+
+/* Frees the piece that begins at a place. Refuses as find_piece does. */
+static partmem_status release(partmem_heap *heap, uint32_t place)
+{
+    partmem_object freed;
+    if (run_at(heap, slot_of(heap, place))) return release_run(heap, place);
+    return partmem_release(heap->tenant, place, &heap->own, &freed);
 }
 
 void *partmem_heap_malloc(partmem_heap *heap, size_t bytes)
@@ -334,16 +344,19 @@ void *partmem_heap_realloc(partmem_heap *heap, void *old, size_t bytes)
     void *at = allocate(heap, STEP, bytes);
     if (!at) return is_enough ? old : NULL;
     memcpy(at, old, is_enough ? bytes : piece.bytes);
-    (void)!release(heap, &piece);
+    (void)!release(heap, piece.place);
     return at;
 }
 
 partmem_status partmem_heap_free(partmem_heap *heap, void *at)
 {
-    struct piece piece;
+    partmem_object freed;
+    uint32_t place;
     if (!at) return PARTMEM_DONE;
-    partmem_status status = find_piece(heap, at, &piece);
-    return status == PARTMEM_DONE ? release(heap, &piece) : status;
+    if (!heap->tenant.machine) return PARTMEM_NO_MACHINE;
+    if (!heap->slots) return partmem_release_at(heap->tenant, at, &heap->own, &freed);
+    partmem_status status = partmem_find_place(heap->tenant, at, &place);
+    return status == PARTMEM_DONE ? release(heap, place) : status;
 }
 
 size_t partmem_heap_usable_size(const partmem_heap *heap, const void *at)

@@ -26,11 +26,13 @@ struct state {
     void (*release)(void *memory);
 };
 
-/* The functions in Rattle that boot and end a machine, and the one that returns the slot of a tenant that uses a superblock, or
- * OF_NO_SLOT if none does. */
+/* The functions in Rattle that boot and end a machine, the one that returns the slot of a tenant that uses a superblock, and the
+ * one that frees what begins at a byte of a superblock. The last two return OF_NO_SLOT if no slot of the tenant uses it. */
 partmem_status partmem_boot_kernel(partmem_machine *machine, const partmem_config *config);
 partmem_status partmem_end_kernel(partmem_machine *machine);
 uint32_t partmem_slot_in_kernel(partmem_machine *machine, uint32_t tenant, uint32_t superblock);
+uint32_t partmem_release_in_kernel(partmem_machine *machine, uint32_t tenant, uint32_t superblock, uint32_t offset,
+                                   const partmem_sizes *sizes, partmem_object *freed);
 
 /* ---- The functions by which the kernel allocates ------------------------------------------------------------------------ */
 
@@ -164,4 +166,17 @@ partmem_status partmem_find_place(partmem_tenant tenant, const void *at, uint32_
     if (slot == OF_NO_SLOT) return PARTMEM_NOT_HELD;
     *place = (uint32_t)(slot * state.unit + (offset & (state.unit - 1)));
     return PARTMEM_DONE;
+}
+
+partmem_status partmem_release_at(partmem_tenant tenant, const void *at, const partmem_sizes *sizes, partmem_object *freed)
+{
+    if (!tenant.machine->held[2]) return PARTMEM_NO_MACHINE;
+    const struct state state = state_of(tenant.machine);
+    if (tenant.number >= state.tenants) return PARTMEM_NO_TENANT;
+    const size_t offset = (uintptr_t)at - (uintptr_t)state.ram;
+    const size_t superblock = offset >> __builtin_ctzl(state.unit);
+    if (superblock >= state.superblocks) return PARTMEM_NOT_HELD;
+    const uint32_t status = partmem_release_in_kernel(tenant.machine, tenant.number, (uint32_t)superblock,
+                                                      (uint32_t)(offset & (state.unit - 1)), sizes, freed);
+    return status == OF_NO_SLOT ? PARTMEM_NOT_HELD : (partmem_status)status;
 }

@@ -448,6 +448,18 @@ typedef struct partmem_object {
  * or freed. Returns OUT_OF_REACH if the byte is in none: in a free frame or object, or past the last byte of an object. */
 PARTMEM_CHECKED partmem_status partmem_find_object(partmem_tenant tenant, uint32_t place, partmem_object *found);
 
+/* The size in bytes of the objects that partmem_release gives back, indexed by the number of their cache. 0 means none. */
+typedef struct partmem_sizes {
+    uint16_t bytes[PARTMEM_MAX_CACHES];
+} partmem_sizes;
+
+/* Gives back the live object or frees the live page block that begins at a place, and sets *freed to what it was. It is the
+ * partmem_give or the partmem_free of what partmem_find_object finds, in one call. An object is given back only if its cache has
+ * its size in *sizes. Returns OUT_OF_REACH as partmem_find_object does; then NOT_A_BLOCK if the place is inside a page block, and
+ * NOT_AN_OBJECT if it is inside an object, or if its cache has another size in *sizes. */
+PARTMEM_CHECKED partmem_status partmem_release(partmem_tenant tenant, uint32_t place, const partmem_sizes *sizes,
+                                               partmem_object *freed);
+
 /* How many blocks of an order are free, and how many are page blocks or slabs. */
 typedef struct partmem_order_row {
     uint32_t free;
@@ -615,7 +627,8 @@ PARTMEM_CHECKED partmem_status partmem_line(partmem_machine *machine, const char
  * for the functions in C; that a store in lent bytes is the write of these bytes, and that a loaded byte is the private
  * machine's at its place; that at most one live block or object has a byte; that over any list of commands (by calls, lines or
  * events), lookups, loads and stores since boot a tenant gets, finds and loads what a private machine gives to it. These
- * lookups are partmem_find_object, partmem_find_block and the three lends, without the address. What partmem_find_slot and
+ * lookups are partmem_find_object, partmem_find_block and the three lends, without the address. A partmem_release is the give or
+ * the free that it does, or the lookup of partmem_find_object if it is refused. What partmem_find_slot and
  * partmem_find_superblock return depends on the grants of all tenants, and is in their own contracts. Of locks: if two lists
  * have the same commands, lookups, loads and stores under each lock of duty 8, in the same order, they get the same replies and
  * find and load the same, and both leave the same state of each tenant and the same owner of each superblock. A load or a store

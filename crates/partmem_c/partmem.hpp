@@ -288,6 +288,15 @@ public:
         return page_block(tenant_, block);
     }
 
+    /* Gives back the object or frees the page block that begins at a place, and returns what it was. An object is given back only
+     * if its cache has its size in `sizes`. Nothing else may give it back or free it, such as a page_block or a unique_ptr.
+     * Returns out_of_reach, not_a_block, not_an_object. */
+    result<partmem_object> release(std::uint32_t place, const partmem_sizes &sizes) noexcept
+    {
+        partmem_object freed;
+        return done_with(partmem_release(tenant_, place, &sizes, &freed), freed);
+    }
+
     /* Frees the empty slabs of all caches. Returns how many frames they had. */
     result<std::uint32_t> reap() noexcept
     {

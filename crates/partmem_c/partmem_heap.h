@@ -16,7 +16,7 @@
  *     a larger one                            alloc of a page block, which has a power of two of frames
  *     one larger than a superblock            none, and it is refused; with runs, allocs and frees of superblocks, and a reap
  *                                             if an alloc returns a slot that was granted after the initialisation
- *     free                                    give or free; of a run, a free for each superblock
+ *     free                                    give or free, by one release; of a run, a free for each superblock
  *     realloc                                 none, those of a request, or those of a request and a free
  *     init, usable_size, place                none: they look things up
  *
@@ -26,8 +26,8 @@
  * So the commands follow from the earlier calls to the heap, from the tenant's other commands, and from its grants, take-backs
  * and resets. One result does not follow from these: whether partmem_heap_init accepts the slots of a heap with runs (see RUNS).
  * A tenant gets the same places, sizes and refusals whatever other tenants do. No object has a header, and nothing is kept for
- * each frame: the library finds what is live at a place (partmem_find_object). It is proved that what it finds depends on the
- * tenant's own commands, grants, take-backs and resets alone.
+ * each frame: the library finds what is live at a place (partmem_release, partmem_find_object). It is proved that what it finds
+ * depends on the tenant's own commands, grants, take-backs and resets alone.
  *
  * DIRECT CALLS. A tenant may use direct calls beside its heap. They can use 8 of its 32 caches, or more if the heap has fewer
  * classes. Do not free with the heap what a direct call allocated, nor the other way round. The heap refuses to free an object if
@@ -69,8 +69,9 @@
  * tenant has one heap: calls to a second heap count as direct calls. Do not use a heap before partmem_heap_init. After a reset of
  * the tenant or the machine's end, do not use it until it is initialised again. A heap that is all 0 may always be used.
  *
- * PROVED: what each command of the heap does. TESTED: all of heap.c, and the functions in C that it uses, partmem_find_place and
- * partmem_superblock_address. docs/heap.md says how, and what a heap costs. */
+ * PROVED: what each command of the heap does. TESTED: all of heap.c, and the functions in C that it uses, partmem_find_place,
+ * partmem_superblock_address and the one that finds the superblock of an address that is freed. docs/heap.md says how, and what a
+ * heap costs. */
 #ifndef PARTMEM_HEAP_H
 #define PARTMEM_HEAP_H
 
@@ -104,7 +105,7 @@ typedef struct partmem_heap {
     uint16_t size[PARTMEM_HEAP_MAX_CLASSES];                      /* by class: the bytes of its objects */
     uint16_t align[PARTMEM_HEAP_MAX_CLASSES];                     /* by class: the alignment of its objects */
     uint8_t cache_of[PARTMEM_HEAP_MAX_CLASSES];                   /* by class: the number of its cache, plus 1; or 0 */
-    uint8_t class_in[PARTMEM_MAX_CACHES];                         /* by cache: the last class that had it, plus 1; or 0 */
+    partmem_sizes own;                                            /* by cache: the size of the last class that had it, or 0 */
     uint8_t class_of[PARTMEM_FRAME_BYTES / PARTMEM_HEAP_STEP + 1]; /* by size in steps, rounded up: the class, or `classes` */
 } partmem_heap;
 

@@ -386,6 +386,17 @@ PARTMEM_INLINE partmem_status partmem_watched_give(partmem_tenant tenant, uint32
     return status;
 }
 
+PARTMEM_INLINE partmem_status partmem_watched_release(partmem_tenant tenant, uint32_t place, const partmem_sizes *sizes,
+                                                      partmem_object *freed)
+{
+    partmem_watched_ending ending;
+    partmem_status status;
+    partmem_watched_before(&ending, tenant, PARTMEM_GIVE, 0, place);
+    status = partmem_release(tenant, place, sizes, freed);
+    partmem_watched_after(&ending);
+    return status;
+}
+
 PARTMEM_INLINE partmem_status partmem_watched_take_back(partmem_tenant tenant, uint32_t slot)
 {
     partmem_watched_ending ending;
@@ -679,6 +690,7 @@ PARTMEM_INLINE partmem_status partmem_watched_heap_free(partmem_heap *heap, void
 #define partmem_destroy_cache partmem_watched_destroy_cache
 #define partmem_take partmem_watched_take
 #define partmem_give partmem_watched_give
+#define partmem_release partmem_watched_release
 #define partmem_reap partmem_watched_reap
 #define partmem_lend partmem_watched_lend_bytes
 #define partmem_lend_object partmem_watched_lend_object

@@ -12,3 +12,4 @@ pub mod Finding
 pub mod Figures
 pub mod Lends
 pub mod Holders
+pub mod Releases

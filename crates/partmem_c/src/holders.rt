@@ -2,12 +2,12 @@
 
 ghost use Rattle.std.specs.Prelude.{◌≡◌};
 ghost use Rattle.partmem_c.specs.Finding.{LooksUp};
-ghost use Rattle.partmem_c.specs.Holders.{FindsHolder, no_holder, cache_or_none};
+ghost use Rattle.partmem_c.specs.Holders.{FindsHolder, no_holder, numbers_of_holder, cache_or_none};
 
 use crate::lookups::put;
 use crate::machine_storage::MachineStorage;
 use crate::status::NO_MACHINE;
-use kernel_core::Kernel;
+use kernel_core::{Holder, Kernel};
 use std::alloc::Global;
 use words_core::Refusal;
 
@@ -24,7 +24,7 @@ pub struct HolderNumbers {
     pub bytes: u32,
 }
 
-const NO_HOLDER: HolderNumbers = HolderNumbers {
+pub(crate) const NO_HOLDER: HolderNumbers = HolderNumbers {
     cache: 0,
     place: 0,
     bytes: 0,
@@ -57,11 +57,19 @@ fn holder_at(kernel: &Kernel, tenant: u32, place: u32) -> Result<HolderNumbers, 
     ensures { FindsHolder kernel.now tenant place result }
 {
     let holder = kernel.holder(tenant, place)?;
-    Ok(HolderNumbers {
+    Ok(numbers_of_holder(holder))
+}
+
+/// Returns the numbers of an object or a page block.
+#[inline(always)]
+pub(crate) fn numbers_of_holder(holder: Holder) -> HolderNumbers
+    ensures { result ≡ numbers_of_holder holder }
+{
+    HolderNumbers {
         cache: cache_or_none(holder.cache),
         place: holder.place,
         bytes: holder.bytes,
-    })
+    }
 }
 
 /// Returns the number of a cache, or [`OF_NO_CACHE`] for `None`.

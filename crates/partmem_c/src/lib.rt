@@ -31,5 +31,6 @@ pub mod objects;
 pub mod owners;
 pub mod pages;
 mod raw_box;
+pub mod releases;
 pub mod status;
 pub mod telling;

@@ -10,6 +10,6 @@ returns-in_err-holder c =
 pub returns : goal.returns
 returns c = (
   c.in_ok-holder.holder,
-  ap (λ n. record { cache = n; place = c.in_ok-holder.holder.place; bytes = c.in_ok-holder.holder.bytes }) c.cache_or_none.ensures,
+  c.numbers_of_holder.ensures,
   c.in_ok-holder.ensures.answers,
 )
