@@ -372,6 +372,17 @@ impl Machine {
         done(unsafe { sys::partmem_give(tenant, object.kind.0, object.place) })
     }
 
+    /// Frees a page block or gives back an object, for code that has handles of any kind. A block or an object of another machine
+    /// is refused, and stays allocated there.
+    pub fn release<Kind>(&self, handle: Handle<Kind>) -> Result<(), Error> {
+        let tenant = self.check(handle.tenant, handle.stamp)?;
+        // If an object begins at the place, it has this size, whatever its cache.
+        let sizes = sys::Sizes([handle.bytes as u16; 32]);
+        // SAFETY: the machine is booted, the call's locks are held, and the result goes to a local variable. What is freed is not
+        // lent, since lends borrow its handle.
+        result(|freed: &mut sys::Object| unsafe { sys::partmem_release(tenant, handle.place, &sizes, freed) }).map(drop)
+    }
+
     /// Frees the empty slabs of all caches of a tenant, as an `alloc` or a `take` does on demand. Returns how many frames these
     /// slabs had.
     pub fn reap(&self, tenant: Tenant) -> Result<u32, Error> {

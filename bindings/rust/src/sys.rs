@@ -32,6 +32,15 @@ pub struct Cache {
     pub form: [u32; 4],
 }
 
+/// For each cache number, the size in bytes of the objects that `partmem_release` gives back; 0 means none.
+#[repr(C)]
+pub struct Sizes(pub [u16; 32]);
+
+/// What `partmem_release` has freed: the number of its cache, its place and its bytes.
+#[repr(C)]
+#[derive(Default)]
+pub struct Object([u32; 3]);
+
 #[repr(C)]
 pub struct HeapConfig {
     pub sizes: *const u16,
@@ -51,7 +60,7 @@ pub struct Heap {
     aligns: [u16; MAX_CLASSES],
     /// For each class, the number of its cache plus 1, or 0 if the class has no cache.
     pub cache_of: [u8; MAX_CLASSES],
-    class_in: [u8; 32],
+    own: Sizes,
     class_of: [u8; 257],
 }
 
@@ -60,8 +69,8 @@ pub const MAX_CLASSES: usize = 24;
 // The sizes that tests/use-from-c/layout.c checks in the headers.
 const _: () = assert!(size_of::<Machine>() == 24 && size_of::<Tenant>() == 16 && size_of::<Lent>() == 24);
 const _: () = assert!(size_of::<Config>() == 12 && size_of::<Slot>() == 8 && size_of::<Cache>() == 20);
-const _: () = assert!(size_of::<Memory>() == 16 && size_of::<HeapConfig>() == 24 && size_of::<Heap>() == 456);
-const _: () = assert!(size_of::<Figures>() == 756);
+const _: () = assert!(size_of::<Memory>() == 16 && size_of::<HeapConfig>() == 24 && size_of::<Heap>() == 488);
+const _: () = assert!(size_of::<Figures>() == 756 && size_of::<Object>() == 12 && size_of::<Sizes>() == 64);
 
 impl Heap {
     /// Returns a heap that is all 0, as after a refused initialisation.
@@ -94,6 +103,7 @@ extern "C" {
     pub fn partmem_destroy_cache(tenant: Tenant, cache: u32) -> u32;
     pub fn partmem_take(tenant: Tenant, cache: u32, object: *mut Lent) -> u32;
     pub fn partmem_give(tenant: Tenant, cache: u32, place: Place) -> u32;
+    pub fn partmem_release(tenant: Tenant, place: Place, sizes: *const Sizes, freed: *mut Object) -> u32;
     pub fn partmem_reap(tenant: Tenant, frames: *mut u32) -> u32;
     pub fn partmem_lend(tenant: Tenant, place: Place, bytes: u32, lent: *mut Lent) -> u32;
     pub fn partmem_report(tenant: Tenant, figures: *mut Figures) -> u32;

@@ -43,6 +43,19 @@ fn an_object_has_the_pattern_and_then_what_was_in_it() {
 }
 
 #[test]
+fn a_release_frees_blocks_and_objects() {
+    let (machine, cache) = booted(4);
+    let (block, object) = (machine.alloc(ONE, 1).unwrap(), machine.take(&cache).unwrap());
+    let places = (block.place(), object.place());
+    machine.release(block).unwrap();
+    machine.release(object).unwrap();
+    let (block, object) = (machine.alloc(ONE, 1).unwrap(), machine.take(&cache).unwrap());
+    assert_eq!((block.place(), object.place()), places);
+    let (other, _) = booted(4);
+    assert_eq!(other.release(block), Err(Error::Stale));
+}
+
+#[test]
 fn mistakes_and_refusals_have_their_error() {
     let refused = [(2, 1, 1), (11, 1, 1), (3, 0, 1), (3, 4097, 1), (9, 2049, 1), (10, 1025, 1), (3, 1, 0), (3, 1, 256)];
     for (order, superblocks, tenants) in refused.into_iter().chain([(u32::MAX, 1, 1), (3, 1, u32::MAX)]) {
