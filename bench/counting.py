@@ -5,7 +5,7 @@ import subprocess
 
 COMMANDS = 'alloc free take give read write cache destroy reap report grant take_back move reset'.split()
 # Direct calls for which there is no event.
-CALLS = 'lend lend_object lend_block find_object'.split()
+CALLS = 'lend lend_object lend_block find_object release'.split()
 ROUNDS = 100
 # The C library has a memcpy and a memset for each kind of processor. With these settings it uses the same ones on each.
 TUNABLES = "glibc.cpu.hwcaps=-ERMS,-FSRM,-AVX,-AVX2,-AVX512F,-AVX512VL,-AVX_Fast_Unaligned_Load"

@@ -2,12 +2,13 @@
  *
  *     events event|call COMMAND ROUNDS
  *
- * COMMAND is alloc, free, take, give, read, write, cache, destroy, reap, report, grant, take_back, move or reset. For `call` it
- * may also be lend, lend_object, lend_block or find_object. Only the command itself goes through `measured`, so that callgrind
- * counts it alone. The events or direct calls that prepare and undo it are not counted. The machine has 32 superblocks of order 6
- * and 8 tenants. Tenant 0 has half of the superblocks, 16 page blocks of order 3 that were written to, and two caches with
- * live objects. Only the command reset is for tenant 1, which has a superblock with a page block and a slab. If bench/floor.c is
- * linked instead of the library, only the direct calls alloc, free, take, give, read, write, reap and lend work.
+ * COMMAND is alloc, free, take, give, read, write, cache, destroy, reap, report, grant, take_back, move or reset. For `call`
+ * it may also be lend, lend_object, lend_block, find_object or release. Only the command itself goes through `measured`, so
+ * that callgrind counts it alone. The events or direct calls that prepare and undo it are not counted. The machine has 32
+ * superblocks of order 6 and 8 tenants. Tenant 0 has half of the superblocks, 16 page blocks of order 3 that were written to,
+ * and two caches with live objects. Only the command reset is for tenant 1, which has a superblock with a page block and a
+ * slab. If bench/floor.c is linked instead of the library, only the direct calls alloc, free, take, give, read, write, reap
+ * and lend work.
  *
  *     events new ORDER           the first write into each superblock, whose memory was never touched
  *     events again ORDER ROUNDS  the first write after a grant, into memory that earlier rounds have touched
@@ -23,7 +24,7 @@
 
 #include "partmem.h"
 
-enum { LEND = 100, LEND_OBJECT, LEND_BLOCK, FIND_OBJECT }; /* direct calls that are not events */
+enum { LEND = 100, LEND_OBJECT, LEND_BLOCK, FIND_OBJECT, RELEASE }; /* direct calls that are not events */
 enum { SUPERBLOCKS = 32, TENANTS = 8, SLOTS = SUPERBLOCKS / 2, SMALL = 96, LARGE = 2048, FRAME_BYTES = 4096 };
 
 static partmem_machine machine;
@@ -61,6 +62,7 @@ static uint32_t call(uint32_t kind, uint32_t first, uint32_t second) {
     partmem_slot slot;
     partmem_cache cache;
     partmem_object found;
+    static const partmem_sizes sizes = {{SMALL, LARGE}};
     partmem_figures figures;
     uint32_t frames;
     switch (kind) {
@@ -82,6 +84,7 @@ static uint32_t call(uint32_t kind, uint32_t first, uint32_t second) {
     case LEND_OBJECT: done(partmem_lend_object(me, first, second, &lent)); break;
     case LEND_BLOCK: done(partmem_lend_block(me, first, &lent)); break;
     case FIND_OBJECT: done(partmem_find_object(me, first, &found)); break;
+    case RELEASE: done(partmem_release(me, first, &sizes, &found)); break;
     }
     return 0;
 }
@@ -172,6 +175,8 @@ static void run_round(const char *command, uint32_t frame) {
         uint32_t place = run(PARTMEM_TAKE, 0, 0);
         measured(FIND_OBJECT, place + SMALL - 1, 0);
         run(PARTMEM_GIVE, 0, place);
+    } else if (is_direct && !strcmp(command, "release")) {
+        measured(RELEASE, run(PARTMEM_TAKE, 0, 0), 0);
     } else {
         fail("there is no such command");
     }

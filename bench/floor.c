@@ -686,4 +686,5 @@ MISSING(partmem_reset);
 MISSING(partmem_lend_object);
 MISSING(partmem_lend_block);
 MISSING(partmem_find_object);
+MISSING(partmem_release);
 MISSING(partmem_strerror);

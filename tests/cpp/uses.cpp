@@ -116,6 +116,22 @@ void check_blocks()
     MUST(live_frames(tenant) == 0);
 }
 
+void check_releases()
+{
+    partmem::machine machine(sizes);
+    partmem::tenant tenant(machine, 0, 1);
+    partmem_lent block, object;
+    partmem_cache cache;
+    partmem_sizes own = {};
+    MUST(partmem_make_cache(tenant.get(), 96, 8, "", 1, &cache) == PARTMEM_DONE);
+    MUST(partmem_alloc(tenant.get(), 1, &block) == PARTMEM_DONE && partmem_take(tenant.get(), cache.cache, &object) == PARTMEM_DONE);
+    MUST(tenant.release(block.place + 4096, own).code() == status::not_a_block);
+    MUST(tenant.release(block.place, own)->bytes == 8192 && tenant.release(block.place, own).code() == status::out_of_reach);
+    MUST(tenant.release(object.place, own).code() == status::not_an_object);
+    own.bytes[cache.cache] = 96;
+    MUST(tenant.release(object.place, own)->cache == cache.cache && live_frames(tenant) == 0);
+}
+
 void check_objects()
 {
     partmem::machine machine(sizes);
@@ -304,6 +320,7 @@ int main(int count, char **words)
     check_machine();
     check_tenants();
     check_blocks();
+    check_releases();
     check_objects();
     check_heap();
     check_threads();

@@ -103,6 +103,30 @@ partmem_status __wrap_partmem_give(partmem_tenant tenant, uint32_t cache, uint32
     return note(tenant, PARTMEM_GIVE, __real_partmem_give(tenant, cache, place), cache, place, 0);
 }
 
+/* A release is noted as the give or the free that it does. If it is refused, it is noted as a refused give. */
+static partmem_status note_release(partmem_tenant tenant, partmem_status status, const partmem_object *freed)
+{
+    if (status == PARTMEM_DONE && freed->cache == PARTMEM_OF_NO_CACHE)
+        return note(tenant, PARTMEM_FREE, status, freed->place, 0, 0);
+    return note(tenant, PARTMEM_GIVE, status, freed->cache, freed->place, 0);
+}
+
+partmem_status __real_partmem_release(partmem_tenant tenant, uint32_t place, const partmem_sizes *sizes, partmem_object *freed);
+partmem_status __wrap_partmem_release(partmem_tenant tenant, uint32_t place, const partmem_sizes *sizes, partmem_object *freed)
+{
+    *freed = (partmem_object){0, 0, 0};
+    return note_release(tenant, __real_partmem_release(tenant, place, sizes, freed), freed);
+}
+
+partmem_status __real_partmem_release_at(partmem_tenant tenant, const void *at, const partmem_sizes *sizes,
+                                         partmem_object *freed);
+partmem_status __wrap_partmem_release_at(partmem_tenant tenant, const void *at, const partmem_sizes *sizes,
+                                         partmem_object *freed)
+{
+    *freed = (partmem_object){0, 0, 0};
+    return note_release(tenant, __real_partmem_release_at(tenant, at, sizes, freed), freed);
+}
+
 partmem_status __real_partmem_reap(partmem_tenant tenant, uint32_t *frames);
 partmem_status __wrap_partmem_reap(partmem_tenant tenant, uint32_t *frames)
 {

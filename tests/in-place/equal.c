@@ -234,6 +234,34 @@ static void give(void)
     reply(false, status, "given");
 }
 
+/* Frees what begins at the place, and writes the line of that give or free. If the call is refused, it is a lookup and has no
+ * line. */
+static void release_place(void)
+{
+    partmem_sizes sizes = {{0}};
+    partmem_object found, freed;
+    partmem_status expected = partmem_find_object(me, place, &found);
+    bool is_object = expected == PARTMEM_DONE && found.cache != PARTMEM_OF_NO_CACHE, is_wrong = rarely(4);
+    if (is_object) sizes.bytes[found.cache] = (uint16_t)(is_wrong ? found.bytes + 1 : found.bytes);
+    if (expected == PARTMEM_DONE && (found.place != place || (is_object && is_wrong))) {
+        expected = is_object ? PARTMEM_NOT_AN_OBJECT : PARTMEM_NOT_A_BLOCK;
+    }
+    partmem_status status = partmem_release(me, place, &sizes, &freed);
+    MUST(status == expected);
+    if (status != PARTMEM_DONE) {
+        MUST(!freed.cache && !freed.place && !freed.bytes);
+        return;
+    }
+    MUST(freed.cache == found.cache && freed.place == place && freed.bytes == found.bytes);
+    if (is_object) {
+        line("%u give %u %u", t, found.cache, place);
+        reply(false, status, "given");
+    } else {
+        line("%u free %u", t, place / PARTMEM_FRAME_BYTES);
+        reply(false, status, "freed %u", order_of(found.bytes));
+    }
+}
+
 static void reap(void)
 {
     uint32_t frames;
@@ -300,7 +328,8 @@ static void run_event(void)
     if (reply(false, status, "frame %u", got.first)) keep(got.first * PARTMEM_FRAME_BYTES);
 }
 
-static void (*const frequent[])(void) = {alloc, release, take, give, load, store, read_bytes, write_bytes, run_line, run_event};
+static void (*const frequent[])(void) = {alloc, release, take,       give,        release_place, load,
+                                         store, read_bytes, write_bytes, run_line, run_event};
 static void (*const rare[])(void) = {grant, take_back, move, make_cache, reap, report};
 static void (*const rarest[])(void) = {reset, destroy_cache, pool, grant, grant};
 

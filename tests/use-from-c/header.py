@@ -1,4 +1,4 @@
-"""Reads crates/partmem_c/partmem.h, and three functions that memory.c declares, and the exports, structs and constants of the
+"""Reads crates/partmem_c/partmem.h, and four functions that memory.c declares, and the exports, structs and constants of the
 crate's source.
 
 Fails if the header has text that is not compared, or if an export or a struct of the source was not read."""
@@ -13,14 +13,14 @@ LIMITS = "FRAME_BYTES MIN_ORDER MAX_CACHES MAX_PATTERN MAX_BYTES".split()
 # Limits of a machine. The library has those of a wide machine, which the source names WIDE_ORDER and so on.
 WIDE = "ORDER SUPERBLOCKS FRAMES TENANTS".split()
 # Maps types of Rust to types of C.
-TYPES = {"u32": "uint32_t", "usize": "size_t", "bool": "uint32_t", "*mut u8": "void *"}
+TYPES = {"u16": "uint16_t", "u32": "uint32_t", "usize": "size_t", "bool": "uint32_t", "*mut u8": "void *"}
 # Maps names of fields in Rust to other names in C.
 FIELDS = {"usage": "use"}
 # A parameter of type partmem_tenant in the header is these two parameters in the source.
 TENANT = [("machine", "partmem_machine *"), ("tenant", "uint32_t")]
 IN_C = ["partmem_" + name for name in "strerror version boot boot_in end superblock_address find_place".split()]
 # Exports that return a number instead of a status.
-NUMBERS = ["partmem_superblock_bytes", "partmem_slot_in_kernel"]
+NUMBERS = ["partmem_superblock_bytes", "partmem_slot_in_kernel", "partmem_release_in_kernel"]
 ENUM = re.compile(r"(?:typedef )?enum (?:\w+ )?\{([^{}]*)\}(?: (\w+))?;")
 STRUCT = re.compile(r"typedef struct (\w+) \{([^{}]*)\} (\w+);")
 FUNCTION = re.compile(r"(?:PARTMEM_CHECKED )?(partmem_status|uint32_t|void \*|const char \*) ?(\w+)\(([^()]*)\);")

@@ -62,6 +62,9 @@ FIELD(partmem_object, cache, uint32_t, 0);
 FIELD(partmem_object, place, uint32_t, 4);
 FIELD(partmem_object, bytes, uint32_t, 8);
 
+STRUCT(partmem_sizes, 64, 2);
+ARRAY(partmem_sizes, bytes, uint16_t, 32, 0);
+
 STRUCT(partmem_order_row, 8, 4);
 FIELD(partmem_order_row, free, uint32_t, 0);
 FIELD(partmem_order_row, taken, uint32_t, 4);
@@ -90,7 +93,7 @@ FIELD(partmem_heap_config, count, uint32_t, 8);
 FIELD(partmem_heap_config, slots, uint32_t, 12);
 FIELD(partmem_heap_config, runs, uint16_t *, 16);
 
-STRUCT(partmem_heap, 456, 8);
+STRUCT(partmem_heap, 488, 8);
 FIELD(partmem_heap, tenant, partmem_tenant, 0);
 FIELD(partmem_heap, base, unsigned char *, 16);
 FIELD(partmem_heap, runs, uint16_t *, 24);
@@ -100,8 +103,8 @@ FIELD(partmem_heap, classes, uint32_t, 40);
 ARRAY(partmem_heap, size, uint16_t, 24, 44);
 ARRAY(partmem_heap, align, uint16_t, 24, 92);
 ARRAY(partmem_heap, cache_of, uint8_t, 24, 140);
-ARRAY(partmem_heap, class_in, uint8_t, 32, 164);
-ARRAY(partmem_heap, class_of, uint8_t, 257, 196);
+FIELD(partmem_heap, own, partmem_sizes, 164);
+ARRAY(partmem_heap, class_of, uint8_t, 257, 228);
 
 STRUCT(partmem_request, 16, 4);
 FIELD(partmem_request, kind, uint32_t, 0);
@@ -122,6 +125,7 @@ IS(&partmem_superblock_bytes, uint32_t (*)(partmem_machine *));
 IS(&partmem_superblock_address, void *(*)(const partmem_machine *, uint32_t));
 IS(&partmem_find_place, partmem_status (*)(partmem_tenant, const void *, uint32_t *));
 IS(&partmem_find_object, partmem_status (*)(partmem_tenant, uint32_t, partmem_object *));
+IS(&partmem_release, partmem_status (*)(partmem_tenant, uint32_t, const partmem_sizes *, partmem_object *));
 IS(&partmem_move, partmem_status (*)(partmem_tenant, uint32_t, partmem_slot *));
 IS(&partmem_make_cache, partmem_status (*)(partmem_tenant, uint32_t, uint32_t, const void *, size_t, partmem_cache *));
 IS(&partmem_lend, partmem_status (*)(partmem_tenant, uint32_t, uint32_t, partmem_lent *));

@@ -213,6 +213,9 @@ OTHER(partmem_read, (partmem_tenant tenant, uint32_t from, void *to, size_t byte
 OTHER(partmem_write, (partmem_tenant tenant, uint32_t to, const void *from, size_t bytes), (tenant, to, from, bytes))
 OTHER(partmem_find_block, (partmem_tenant tenant, uint32_t from, partmem_block *found), (tenant, from, found))
 OTHER(partmem_find_object, (partmem_tenant tenant, uint32_t from, partmem_object *found), (tenant, from, found))
+OTHER(partmem_release,
+      (partmem_tenant tenant, uint32_t from, const partmem_sizes *sizes, partmem_object *freed),
+      (tenant, from, sizes, freed))
 OTHER(partmem_find_place, (partmem_tenant tenant, const void *at, uint32_t *found), (tenant, at, found))
 OTHER(partmem_report, (partmem_tenant tenant, partmem_figures *figures), (tenant, figures))
 OTHER(partmem_event,
