@@ -123,10 +123,10 @@ class Judge:
     def alone(self, run, tenant):
         """Runs the tenant's own list alone. Returns a case if that breaks a promise, if the program fails, or if the tenant gets
         other replies than in the run."""
-        own = run.own_list(tenant)
-        other = said_again(self.programs, run.sizes, own)
+        lines, _, answers = run.own_list(tenant)
+        other = said_again(self.programs, run.sizes, lines, answers)
         case = self.judged(other)
-        if not case and len(own) == len(run.exchanges):
+        if not case and len(lines) == len(run.lines):
             return self.unsteady(run, other, tenant)
         return case or self.compared(run, other, tenant, 'when its own list is run alone')
 
@@ -136,7 +136,7 @@ class Judge:
         if isinstance(finding, Failure) or finding.tenant is None or finding.is_unsteady:
             return case
         for _ in range(TIMES_AGAIN):
-            other = said_again(self.programs, run.sizes, run.exchanges)
+            other = said_again(self.programs, run.sizes, run.lines, run.answers)
             found = self.unsteady(run, other, finding.tenant)
             if found:
                 return found

@@ -6,9 +6,10 @@ from .heavy import Planner
 from .judge import Case, Judge
 from .maker import OF_CACHES, Maker, Phase
 from .plans import ALL
-from .runs import Run, is_own, naming
+from .runs import Run, is_own
 from .talk import Programs
 from .words import Sizes
+from .world import GRANT, MOVE, UNREAD
 
 # Everything counts as full if, of the lines sent at once, more than one in FULL is refused with NoFrames or PoolEmpty.
 FULL = 3
@@ -34,7 +35,7 @@ class Reached(NamedTuple):
 
 def reached_by(run):
     sizes = run.sizes
-    return Reached(len(run.exchanges), run.world.refused, run.world.most, frozenset([sizes.order]), sizes.tenants, sizes)
+    return Reached(len(run.lines), run.world.refused, run.world.most, frozenset([sizes.order]), sizes.tenants, sizes)
 
 
 class Load(NamedTuple):
@@ -81,7 +82,7 @@ def say_phase(run, maker, phase, at_once):
         if count == 0:
             return
         before = refused_for_want(world)
-        run.say(maker.lines(world, phase, count))
+        run.say(*maker.lines(world, phase, count))
         left -= count
         is_full = phase.until == 'full' and FULL * (refused_for_want(world) - before) > count
         if is_full or phase.until == 'stuck' and most_lines(world, phase) >= most:
@@ -118,19 +119,29 @@ def most_held(lines):
 def between_noise(programs, before, tenant, maker):
     """Runs a tenant's own list from an earlier run again, between new lines of the other tenants. The other tenants leave enough
     superblocks for the grants of the own list."""
-    sizes, lines = before.sizes, [line for line, _ in before.own_list(tenant)]
+    sizes, (lines, steps, _) = before.sizes, before.own_list(tenant)
     others = [number for number in range(sizes.tenants) if number != tenant]
     noise = Phase(0, ALL, others, [0, 0, 0, 1, 1, 2, sizes.order])
-    run, left, may_name = Run(programs, sizes), sizes.superblocks - most_held(lines), naming(tenant).match
+    run, left = Run(programs, sizes), sizes.superblocks - most_held(lines)
+    world, begin = run.world, 'admin grant'
     for at in range(0, len(lines), OWN_AT_ONCE):
-        held, said = sum(len(run.world.tenants[other].slots) for other in others), []
-        for line in lines[at:at + OWN_AT_ONCE]:
-            for _ in range(maker.rng.randrange(MAX_NOISE + 1) if others else 0):
-                other = maker.line(run.world, noise)
-                is_grant = other.startswith('admin grant')
-                if not (may_name(other) and is_own(tenant, other, [''])) and (not is_grant or held < left):
+        held, said, of_said = sum(len(world.tenants[other].slots.keys) for other in others), [], []
+        for line, step in zip(lines[at:at + OWN_AT_ONCE], steps[at:at + OWN_AT_ONCE]):
+            for _ in range(maker.below(MAX_NOISE + 1) if others else 0):
+                other, of_other = maker.line(world, noise)
+                is_grant = of_other[0] == GRANT or of_other[1] == UNREAD and other.startswith(begin)
+                if not may_be_own(tenant, other, of_other) and (not is_grant or held < left):
                     said.append(other)
+                    of_said.append(of_other)
                     held += is_grant
             said.append(line)
-        run.say(said)
+            of_said.append(step)
+        run.say(said, of_said)
     return run.end()
+
+
+def may_be_own(tenant, line, step):
+    """Returns whether a line that was made is in a tenant's own list unless it is refused."""
+    if step[1] == UNREAD:
+        return is_own(tenant, line, [''])
+    return step[1] == tenant or step[1] == ~tenant and step[0] != MOVE

@@ -1,11 +1,12 @@
 """Makes lines. Most numbers in them name something that exists. The others are wrong, and often at an edge."""
 from typing import NamedTuple, Optional
 
-from .words import FRAME_BYTES, MAX_BYTES, MAX_NUMBER
-from .world import Cache
+from .words import FRAME_BYTES, MAX_BYTES, MAX_NUMBER, MAX_ORDER
+from .world import (ALLOC, FREE, GIVE, GRANT, MOVE, NOBODY, OTHER_STEP, PLAIN, POOL_STEP, REPORT, TAKE, WORDS, WRITE, Cache)
 
 OF_TENANT = ('alloc', 'free', 'read', 'write', 'cache', 'destroy', 'take', 'give', 'reap', 'report')
 OF_CACHES = OF_TENANT[4:]
+ALL_OF_TENANT = frozenset(OF_TENANT)
 OF_ADMIN = ('grant', 'takeback', 'move', 'reset', 'pool')
 
 FAULTY = ['frob', '0', '0 alloc', '0 alloc x', '0 alloc 4294967296', '7x alloc 0', '0 write 0 abc', '0 frob 1', 'admin',
@@ -73,22 +74,36 @@ class Maker:
         return commands
 
     def lines(self, world, phase, count):
-        return [self.line(world, phase) for _ in range(count)]
+        """Returns lines, and the step of each."""
+        line = self.line
+        made = [line(world, phase) for _ in range(count)]
+        return [text for text, _ in made], [step for _, step in made]
 
     def line(self, world, phase):
-        number = self.one(phase.tenants)
-        command, tenant = self.one(self.commands(phase)), world.tenants[number]
-        if not tenant.slots.keys and command in OF_TENANT and self.random() < 0.6:
+        """Returns a line and its step."""
+        random, tenants, commands = self.random, phase.tenants, self.of.get(phase.weights) or self.commands(phase)
+        number = tenants[int(random() * len(tenants))]
+        command = commands[int(random() * len(commands))]
+        tenant = world.tenants[number]
+        if not tenant.slots.keys and command in ALL_OF_TENANT and random() < 0.6:
             number, command = self.for_a_slot(world, number)
             tenant = world.tenants[number]
         if command == 'fault':
-            return self.one(FAULTY)
+            return self.one(FAULTY), OTHER_STEP
         if command in OF_ADMIN:
             return self.admin(world, phase, number, command)
-        actor = number if phase.is_plain or self.random() < 0.995 else self.no_tenant(world)
-        command = self.possible(tenant, command)
-        made = MADE.get(command)
-        return f'{actor} {command} {made(self, world, phase, tenant)}' if made else f'{actor} {command}'
+        if phase.is_plain or random() < 0.995:
+            return MADE[self.possible(tenant, command)](self, world, phase, tenant, number)
+        actor = self.no_tenant(world)
+        return MADE[self.possible(tenant, command)](self, world, phase, tenant, actor)[0], (PLAIN, NOBODY)
+
+    def below(self, count):
+        """Returns a number below `count`. Draws as `randrange` does, in less time."""
+        bits, draw = count.bit_length(), self.rng.getrandbits
+        number = draw(bits)
+        while number >= count:
+            number = draw(bits)
+        return number
 
     def for_a_slot(self, world, tenant):
         """Returns a tenant and an administrator's command for it. If a superblock is free, this is a grant to `tenant`. Otherwise
@@ -107,10 +122,13 @@ class Maker:
 
     def admin(self, world, phase, tenant, command):
         if command == 'pool' and self.random() * world.sizes.superblocks < 16:
-            return 'admin pool'
-        slot = self.slot(world, phase, world.tenants[tenant].slots.keys) if command in ('takeback', 'move') else ''
-        actor = tenant if self.is_right(phase, 0.97) else self.no_tenant(world)
-        return f'admin {"grant" if command == "pool" else command} {actor} {slot}'.rstrip()
+            return 'admin pool', POOL_STEP
+        is_of_slot = command in ('takeback', 'move')
+        slot = self.slot(world, phase, world.tenants[tenant].slots.keys) if is_of_slot else 0
+        actor = tenant if phase.is_plain or self.random() < 0.97 else self.no_tenant(world)
+        if is_of_slot:
+            return f'admin {command} {actor} {slot}', (MOVE if command == 'move' else WORDS, ~actor)
+        return (f'admin reset {actor}', (WORDS, ~actor)) if command == 'reset' else (f'admin grant {actor}', (GRANT, ~actor))
 
     def no_tenant(self, world):
         count = world.sizes.tenants
@@ -140,19 +158,48 @@ class Maker:
             command = self.one([name for name in OF_TENANT if name not in self.without] or ['report'])
         return command
 
-    def read(self, world, phase, tenant):
+    # These functions make a command of a tenant, and return the line and its step.
+    def read(self, world, phase, tenant, actor):
         place, length = self.range(world, tenant)
-        return f'{place} {length if self.random() < 0.95 else self.one(WRONG_LENGTHS)}'
+        length = length if self.random() < 0.95 else self.one(WRONG_LENGTHS)
+        return f'{actor} read {place} {length}', (PLAIN, actor)
 
-    def write(self, world, phase, tenant):
+    def write(self, world, phase, tenant, actor):
         place, length = self.range(world, tenant)
-        return f'{place} {self.rng.randbytes(length).hex()}'
+        return f'{actor} write {place} {self.rng.randbytes(length).hex()}', (WRITE, actor, place, length)
 
-    def order(self, world, phase, _tenant):
-        chance = 0 if phase.is_plain else self.random()
+    def alloc(self, world, phase, _tenant, actor):
+        random, orders = self.random, phase.orders
+        chance = 0 if phase.is_plain else random()
         if chance < 0.96:
-            return self.one(phase.orders)
-        return self.one([world.sizes.order, world.sizes.order + 1]) if chance < 0.98 else self.one(WRONG_ORDERS)
+            order = orders[int(random() * len(orders))]
+        else:
+            order = self.one([world.sizes.order, world.sizes.order + 1] if chance < 0.98 else WRONG_ORDERS)
+        return f'{actor} alloc {order}', (ALLOC, actor, order) if order <= MAX_ORDER else (PLAIN, actor)
+
+    def free(self, world, phase, tenant, actor):
+        frame = self.page(world, phase, tenant)
+        return f'{actor} free {frame}', (FREE, actor, frame)
+
+    def make(self, world, phase, tenant, actor):
+        return f'{actor} cache {self.layout(world, phase, tenant)}', (WORDS, actor)
+
+    def destroy(self, world, phase, tenant, actor):
+        return f'{actor} destroy {self.cache(world, phase, tenant)}', (WORDS, actor)
+
+    def take(self, world, phase, tenant, actor):
+        cache = self.cache(world, phase, tenant)
+        return f'{actor} take {cache}', (TAKE, actor, cache)
+
+    def give(self, world, phase, tenant, actor):
+        cache, place = self.object(world, phase, tenant)
+        return f'{actor} give {cache} {place}', (GIVE, actor, cache, place)
+
+    def reap(self, _world, _phase, _tenant, actor):
+        return f'{actor} reap', (PLAIN, actor)
+
+    def report(self, _world, _phase, _tenant, actor):
+        return f'{actor} report', (REPORT, actor)
 
     def drawn_in(self, bag, phase, places):
         """Returns a number from the bag. If the phase has a slot, and numbers of that slot are in the bag, returns one of these.
@@ -163,8 +210,12 @@ class Maker:
     def page(self, world, phase, tenant):
         """Returns the first frame of a block, or rarely another number. The block leaves the bag, so it is not drawn again while
         the reply to its free is awaited."""
-        if tenant.pages.keys and self.is_right(phase, 0.93):
-            first = self.drawn_in(tenant.pages, phase, 1 << world.sizes.order)
+        keys = tenant.pages.keys
+        if keys and (phase.is_plain or self.random() < 0.93):
+            if phase.slot is None:
+                first = keys[int(self.random() * len(keys))]
+            else:
+                first = self.drawn_in(tenant.pages, phase, 1 << world.sizes.order)
             tenant.pages.drop(first)
             return first
         if tenant.freed and self.random() < 0.3:
@@ -182,8 +233,12 @@ class Maker:
 
     def object(self, world, phase, tenant):
         """Returns the numbers of a cache and of one of its objects, or rarely other numbers."""
-        if tenant.objects.keys and self.is_right(phase, 0.92):
-            place = self.drawn_in(tenant.objects, phase, FRAME_BYTES << world.sizes.order)
+        keys = tenant.objects.keys
+        if keys and (phase.is_plain or self.random() < 0.92):
+            if phase.slot is None:
+                place = keys[int(self.random() * len(keys))]
+            else:
+                place = self.drawn_in(tenant.objects, phase, FRAME_BYTES << world.sizes.order)
             cache = tenant.objects.get(place)
             tenant.objects.drop(place)
         elif tenant.given and self.random() < 0.3:
@@ -192,7 +247,7 @@ class Maker:
             place = self.one(tenant.objects.keys) if tenant.objects.keys else 0
             cache = tenant.objects.get(place, 0)
             cache, place = self.one([(cache, self.near(place, 16, [FRAME_BYTES])), (self.cache(world, phase, tenant), place)])
-        return f'{cache} {place}'
+        return cache, place
 
     def layout(self, _world, phase, _tenant):
         rng = self.rng
@@ -245,6 +300,6 @@ class Maker:
         return rng.randrange(last + 1)
 
 
-# What makes the arguments of a command of tenants.
-MADE = {'alloc': Maker.order, 'free': Maker.page, 'read': Maker.read, 'write': Maker.write, 'cache': Maker.layout,
-        'destroy': Maker.cache, 'take': Maker.cache, 'give': Maker.object}
+# What makes a command of tenants.
+MADE = {'alloc': Maker.alloc, 'free': Maker.free, 'read': Maker.read, 'write': Maker.write, 'cache': Maker.make,
+        'destroy': Maker.destroy, 'take': Maker.take, 'give': Maker.give, 'reap': Maker.reap, 'report': Maker.report}

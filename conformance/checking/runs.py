@@ -5,11 +5,10 @@ import copy
 import functools
 import itertools
 import operator
-import re
 
 from .talk import ProgramFailed
 from .words import FRAME_BYTES, MAX_BYTES, MAX_NUMBER, is_number, number_in, order_in, told_in
-from .world import World
+from .world import BY_STEP, MOVE, OTHER_STEP, REPORT, UNREAD, World, refusal_in
 
 # The most lines that are sent at once if none of them needs the reply to another.
 MAX_AT_ONCE = 256
@@ -25,54 +24,111 @@ KNOWN_TEXTS = 1 << 13
 
 
 class Run:
-    """A trace that is being made: its lines so far, with their replies. If `is_known`, no line is made from the replies."""
+    """A trace that is being made: its lines so far, with their steps and their replies. A reply is one text, with a newline
+    between two of its lines, or None if it has no line. If `is_known`, no line is made from the replies."""
 
     def __init__(self, programs, sizes, is_known=False):
         self.talk, self.world = programs.start(sizes), World(sizes, is_known)
-        self.sizes, self.exchanges, self.failure, self.rest = sizes, [], None, ''
+        self.sizes, self.failure, self.rest = sizes, None, ''
+        self.lines, self.steps, self.answers, self.built = [], [], [], []
         self.slowest, self.known = 0.0, {}
 
-    def say(self, lines):
-        """Sends lines all at once, and then takes the reply to each."""
+    @property
+    def exchanges(self):
+        """The lines, each with the list of the lines of its reply."""
+        if len(self.built) < len(self.lines):
+            self.built = list(zip(self.lines, map(rows_of, self.answers)))
+        return self.built
+
+    def say(self, lines, steps=None):
+        """Sends lines all at once, and then takes the reply to each. Without steps, all that is noted is seen in their words."""
         if not self.failure and lines:
             self.talk.send(lines)
-            self.take(lines)
+            self.take(lines, steps or [OTHER_STEP] * len(lines))
 
-    def take(self, lines):
+    def take(self, lines, steps):
         """Takes the replies to lines that are sent."""
-        reply, owed, note, add = self.talk.reply, self.world.owed, self.world.note, self.exchanges.append
+        talk, world, answers = self.talk, self.world, self.answers
+        ready, first, refused = talk.ready, len(answers), world.refused
+        pop, add = ready.popleft, answers.append
         try:
-            for line in lines:
-                words = line.split()
-                replies = reply(owed(line, words))
-                add((line, replies))
-                note(words, replies)
+            for line, step in zip(lines, steps):
+                kind = step[0]
+                if kind < REPORT:
+                    if not ready:
+                        talk.wait(1, len(answers))
+                    reply = pop()
+                    add(reply)
+                    name = refusal_in(reply) if 'refused' in reply else ''
+                    if name:
+                        refused[name] += 1
+                    elif kind > MOVE:
+                        noted = BY_STEP[kind]
+                        if noted is None or not noted(world, step, reply):
+                            world.note(line.split(), [reply])
+                else:
+                    words = line.split()
+                    replies = talk.reply(world.rows(step, line, words), len(answers))
+                    add('\n'.join(replies) if replies else None)
+                    world.note(words, replies)
         except ProgramFailed as failed:
-            self.fail_at(line, failed)
+            self.fail_at(lines[len(answers) - first], failed)
+        said = len(answers) - first
+        talk.answered = len(answers)
+        self.lines += lines[:said]
+        self.steps += steps[:said]
 
     def fail_at(self, line, failed):
+        """Notes how the program failed at a line, and what it printed of the reply."""
+        replies = [part for part in self.talk.rest() if part]
         self.failure = failed.args[0]
-        self.exchanges.append((line, [part for part in self.talk.rest() if part]))
-        self.world.note(line.split(), self.exchanges[-1][1])
+        self.answers.append('\n'.join(replies) if replies else None)
+        self.world.note(line.split(), replies)
 
-    def say_again(self, before):
-        """Sends known lines as they are, all at once. `before` has them with their replies in another run. As long as the replies
-        to a tenant are the same, each has as many lines as then."""
-        lines, reply, add = [line for line, _ in before], self.talk.reply, self.exchanges.append
+    def say_again(self, lines, before):
+        """Sends known lines as they are, all at once. `before` has their replies in another run. As long as the replies to a
+        tenant are the same, each has as many lines as then."""
         if lines:
             self.talk.send(lines)
         try:
-            for line, known in before:
-                replies = reply(len(known))
-                add((line, replies))
-                if replies != known and not line.startswith(WITHOUT_ROWS):
-                    break
+            is_same = self.take_again(lines, before)
         except ProgramFailed as failed:
-            self.fail_at(line, failed)
-        if len(self.exchanges) < len(lines) and not self.failure:
-            for line, replies in self.exchanges:
-                self.world.note(line.split(), replies)
-            self.take(lines[len(self.exchanges):])
+            is_same = True
+            self.fail_at(lines[len(self.answers)], failed)
+        said = len(self.answers)
+        self.lines, self.steps = lines[:said], [OTHER_STEP] * said
+        if not is_same:
+            for line, answer in zip(self.lines, self.answers):
+                self.world.note(line.split(), rows_of(answer))
+            self.take(lines[said:], [OTHER_STEP] * (len(lines) - said))
+
+    def take_again(self, lines, before):
+        """Takes replies as long as they are the same as before. Returns false after the first other one, even if it is the
+        last."""
+        answers, talk, at = self.answers, self.talk, 0
+        for many in [*(at for at, known in enumerate(before) if known is None or '\n' in known), len(before)]:
+            # the replies of one line each before the next one of many lines, or of none
+            while at < many:
+                ready = talk.some(many - at, at)
+                known = before[at:at + len(ready)]
+                if ready != known:
+                    others = itertools.compress(itertools.count(), map(operator.ne, ready, known))
+                    other = next((other for other in others if not lines[at + other].startswith(WITHOUT_ROWS)), None)
+                    if other is not None:
+                        talk.give_back(ready[other + 1:])
+                        answers += ready[:other + 1]
+                        return False
+                answers += ready
+                at += len(ready)
+            if many < len(before):
+                known = rows_of(before[many])
+                replies = talk.reply(len(known), many)
+                answers.append('\n'.join(replies) if replies else None)
+                if replies != known and not lines[many].startswith(WITHOUT_ROWS):
+                    return False
+                at += 1
+        talk.answered = len(answers)
+        return True
 
     def end(self):
         if not self.failure:
@@ -85,45 +141,55 @@ class Run:
         return self
 
     def trace(self):
-        return '\n'.join([*map(operator.itemgetter(0), self.exchanges), ''])
+        return '\n'.join([*self.lines, ''])
 
     def text(self):
-        return '\n'.join([*self.replies(), self.rest])
+        return '\n'.join([*self.told_lines(), self.rest])
 
     def up_to(self, count):
         """Returns this run with its first `count` lines alone."""
         cut = copy.copy(self)
-        cut.exchanges, cut.rest, cut.known = self.exchanges[:count], '', {}
+        cut.lines, cut.steps, cut.answers = self.lines[:count], self.steps[:count], self.answers[:count]
+        cut.rest, cut.known, cut.built = '', {}, []
         return cut
 
-    def replies(self):
-        """Returns an iterator over all reply lines."""
-        return itertools.chain.from_iterable(map(operator.itemgetter(1), self.exchanges))
+    def told_lines(self):
+        """Returns the replies, some of which have more than one line."""
+        return [answer for answer in self.answers if answer is not None] if None in self.answers else self.answers
 
     def told(self, tenant):
         """Returns the reply lines that name the tenant. May be called only after the run."""
         if tenant not in self.known:
-            self.known[tenant] = list(filter(operator.methodcaller('startswith', f'{tenant}> '), self.replies()))
+            begin, answers = f'{tenant}> ', self.told_lines()
+            rows = '\n'.join(answers).split('\n') if answers else []
+            self.known[tenant] = [row for row in rows if row.startswith(begin)]
         return self.known[tenant]
 
     def own_list(self, tenant):
-        """Returns the tenant's commands and its resets, and those of its grants and take-backs that were not refused, each with
-        its replies."""
-        begin, may_name = f'{tenant} ', naming(tenant).match
-        return [exchange for exchange in self.exchanges
-                if exchange[0].startswith(begin) or may_name(exchange[0]) and is_own(tenant, *exchange)]
+        """Returns the tenant's commands and its resets, and those of its grants and take-backs that were not refused: the
+        lines, and by line its step and its reply."""
+        lines, steps, answers, wanted = self.lines, self.steps, self.answers, {tenant, ~tenant, UNREAD}
+        at = [at for at, step in enumerate(steps) if step[1] in wanted]
+        at = [at for at in at if steps[at][1] == tenant or self.is_own(tenant, at)]
+        return [lines[one] for one in at], [steps[one] for one in at], [answers[one] for one in at]
+
+    def is_own(self, tenant, at):
+        """Returns whether a line that is no made command of the tenant is in its own list."""
+        (kind, names, *_), rows = self.steps[at], rows_of(self.answers[at])
+        return is_own(tenant, self.lines[at], rows) if names == UNREAD else kind != MOVE and has_done(rows)
 
     def speakers(self):
         """Returns those tenants of the machine that are named in at least one line."""
-        named = {tenant_of(line) for line, _ in self.exchanges}
+        steps = set(map(operator.itemgetter(1), self.steps))
+        named = {str(max(number, ~number)) for number in steps - {UNREAD}}
+        if UNREAD in steps:
+            named |= {tenant_of(line) for line, step in zip(self.lines, self.steps) if step[1] == UNREAD}
         return [tenant for tenant in range(self.sizes.tenants) if str(tenant) in named]
 
 
-@functools.lru_cache(64)
-def naming(tenant):
-    """Returns a pattern that matches the beginning of each line that names this tenant, or tells it apart from most other
-    lines faster than `is_own`."""
-    return re.compile(rf'\s*(admin\s+\S+\s+)?0*{tenant}(?!\S)')
+def rows_of(answer):
+    """Returns the lines of a reply."""
+    return [] if answer is None else answer.split('\n')
 
 
 def is_own(tenant, line, replies):
@@ -285,15 +351,16 @@ def name_from(reply):
     return 'fault' if told[:1] == ['fault'] else '', ''
 
 
-def name_given(replies):
-    return name_from(replies[0]) if replies else ('', '')
+def name_given(answer):
+    """Returns what `name_from` returns for the first line of a reply."""
+    return ('', '') if answer is None else name_from(answer.partition('\n')[0] if '\n' in answer else answer)
 
 
-def said_again(programs, sizes, before):
-    """Runs the lines of a tenant's own list as they are, on a machine of these sizes. `before` also has their replies in another
+def said_again(programs, sizes, lines, before):
+    """Runs the lines of a tenant's own list as they are, on a machine of these sizes. `before` has their replies in another
     run."""
     run = Run(programs, sizes, is_known=True)
-    run.say_again(before)
+    run.say_again(lines, before)
     return run.end()
 
 
@@ -305,18 +372,18 @@ def replayed(programs, sizes, exchanges, order=None):
     run, renamed, sent = Run(programs, sizes, is_known=True), {}, []
 
     def answered():
-        count = len(run.exchanges)
+        count = len(run.answers)
         run.say([line for line, *_ in sent])
         for names in renamed.values():
             names.awaited.clear()
-        for (_, words, names, kind, old), (_, replies) in zip(sent, run.exchanges[count:]):
-            if kind and name_given(replies)[0] == kind:
-                names.note(words, kind, old, name_given(replies)[1])
+        for (_, words, names, kind, old), answer in zip(sent, run.answers[count:]):
+            if kind and name_given(answer)[0] == kind:
+                names.note(words, kind, old, name_given(answer)[1])
         sent.clear()
 
     for line, replies in exchanges:
         words, plain, named = parts_of(line)
-        kind, old = name_given(replies)
+        kind, old = name_from(replies[0]) if replies else ('', '')
         if kind == 'fault' or len(words) < 3:
             names, kind = None, ''
         else:

@@ -27,9 +27,11 @@ SECONDS_OF_ERRORS = 0.2
 MAX_UNASKED, MAX_WAITING = 1 << 16, 1 << 20
 # The kind of failure of a program that exceeds one of these two limits.
 BABBLES = 'babbles'
-# At least how many replies have to be missing for a pause before they are read, how long a fast program needs for a reply, and
-# how long a pause is at most, in seconds.
-MANY, SECONDS_OF_FAST, MAX_PAUSE = 16, 2e-6, 1e-3
+# At least how many replies have to be missing for a pause before they are read, and how long a pause is at most, in seconds.
+MANY, MAX_PAUSE = 2, 1e-3
+# The least and the most seconds for each missing reply that a pause takes. They are multiplied by QUICKER if all replies are there
+# after a pause, and by SLOWER if not.
+LEAST_PACE, MOST_PACE, QUICKER, SLOWER = 1e-6, 2e-5, 0.97, 1.3
 # How many bytes of standard error are kept: at its beginning, with the words of a sanitizer or of a panic, and at its end.
 FIRST_ERRORS, LAST_ERRORS = 1 << 14, 1 << 12
 
@@ -79,6 +81,9 @@ class Talk:
     """A run of the program in its own process group. At the end of the run all descendants of this process are killed, so this
     process can have only one run at a time."""
 
+    # How long the program needs for a reply, in seconds, as far as pauses showed it.
+    pace = 2e-6
+
     def __init__(self, command, seconds, aborts):
         self.process = subprocess.Popen(command, stdin=subprocess.PIPE, stdout=subprocess.PIPE, stderr=subprocess.PIPE,
                                         bufsize=0, **GROUP_OF_ITS_OWN)
@@ -92,7 +97,8 @@ class Talk:
         self.poll = select.poll()
         for number in self.open:
             self.poll.register(number, select.POLLIN)
-        os.set_blocking(self.input, False)
+        for number in self.input, self.output:
+            os.set_blocking(number, False)
 
     def send(self, lines):
         """Sends lines without waiting for replies."""
@@ -116,32 +122,59 @@ class Talk:
             with contextlib.suppress(KeyError):
                 self.poll.unregister(self.input)
 
-    def reply(self, owed):
-        """Returns the reply to the next line, a list of `owed` lines. Raises ProgramFailed if the program does not give it."""
+    def reply(self, owed, answered):
+        """Returns the reply to the line after `answered` others, a list of `owed` lines. Raises ProgramFailed if the program does
+        not give it."""
         if len(self.ready) < owed:
-            self.wait(owed)
-        self.answered += 1
-        return self.taken(owed) if owed != 1 else [self.ready.popleft()]
+            self.wait(owed, answered)
+        return self.taken(owed)
 
-    def wait(self, owed):
-        """Waits until the next `owed` lines are printed."""
-        budget = Budget(self.seconds)
+    def some(self, most, answered):
+        """Returns the next reply lines that are here, at least one and at most `most`."""
+        if not self.ready:
+            self.wait(1, answered)
+        return self.taken(min(most, len(self.ready)))
+
+    def give_back(self, lines):
+        """Takes reply lines back that were not needed."""
+        self.ready.extendleft(reversed(lines))
+
+    def wait(self, owed, answered):
+        """Waits until the next `owed` lines are printed. The replies to `answered` lines are taken."""
+        self.answered, budget = answered, None
         while len(self.ready) < owed:
-            self.pause()
-            is_heard = self.output in self.open and self.hear(time.monotonic() + STEP)
-            is_over = self.output not in self.open or not is_heard and self.has_ended() or budget.is_spent()
-            if len(self.ready) < owed and is_over:
-                raise self.unanswered(budget)
+            is_heard = self.pause() and self.hear_at_once()
+            if not is_heard:
+                budget = budget or Budget(self.seconds)
+                is_heard = self.output in self.open and self.hear(time.monotonic() + STEP)
+                is_over = self.output not in self.open or not is_heard and self.has_ended() or budget.is_spent()
+                if len(self.ready) < owed and is_over:
+                    raise self.unanswered(budget)
             if len(self.ready) < owed and self.waiting() > MAX_WAITING:
                 raise self.babble()
-        self.slowest = max(self.slowest, budget.spent())
+        if budget:
+            self.slowest = max(self.slowest, budget.spent())
 
     def pause(self):
-        """If many replies are missing, waits for about as long as a fast program needs for them. Then many replies are read at
-        once, since most programs write each alone."""
+        """If several replies are missing, waits for about as long as the program needed for as many before. Then many replies are
+        read at once, since most programs write each alone. Returns whether it waited."""
         missing = self.sent - self.answered
-        if missing >= MANY:
-            time.sleep(min(missing * SECONDS_OF_FAST, MAX_PAUSE))
+        if missing < MANY:
+            return False
+        time.sleep(min(missing * Talk.pace, MAX_PAUSE))
+        return True
+
+    def hear_at_once(self):
+        """Reads what is printed so far. Returns false if that is nothing."""
+        if self.output not in self.open:
+            return False
+        try:
+            self.take_piece(self.output, os.read(self.output, 1 << 16))
+        except BlockingIOError:
+            return False
+        is_all = len(self.ready) >= self.sent - self.answered
+        Talk.pace = max(LEAST_PACE, Talk.pace * QUICKER) if is_all else min(Talk.pace * SLOWER, MOST_PACE)
+        return True
 
     def taken(self, count):
         return [self.ready.popleft() for _ in range(count)]
@@ -182,15 +215,18 @@ class Talk:
             if number == self.input:
                 self.write()
                 continue
-            piece = os.read(number, 1 << 16)
-            if not piece:
-                self.poll.unregister(number)
-                self.open.remove(number)
-            elif number == self.output:
-                self.hold(piece)
-            else:
-                self.hold_error(piece)
+            self.take_piece(number, os.read(number, 1 << 16))
         return is_heard
+
+    def take_piece(self, number, piece):
+        """Keeps what was read from standard output or standard error. An empty piece is its end."""
+        if not piece:
+            self.poll.unregister(number)
+            self.open.remove(number)
+        elif number == self.output:
+            self.hold(piece)
+        else:
+            self.hold_error(piece)
 
     def hold(self, piece):
         self.heard += len(piece)

@@ -1,13 +1,43 @@
 """Keeps what the replies of a run said, as far as it is needed to make more lines."""
 import collections
+import functools
 from typing import Any, NamedTuple
 
-from .words import FRAME_BYTES, FRAME_SHIFT, is_number, number_in, order_in, told_in
+from .words import FRAME_BYTES, FRAME_SHIFT, MAX_NUMBER, MAX_ORDER, is_number, number_in, order_in, told_in
 
 # How many of the last frees, gives and writes are kept, so that later lines can name them again.
 LAST = 32
 # A line with more bytes is faulty, even if it is a comment.
 MAX_LINE = 255
+# Each line that is made has a step: a tuple of its kind, of whom it names, and of the numbers that its reply is noted with. It
+# names tenant T as T if it is a command of the tenant, as ~T if it is one of the administrator, and otherwise as NOBODY. The reply
+# to a line of one of the last three kinds may have another number of lines than one. Of PLAIN and MOVE only a refusal is noted.
+# What is noted of a line of the kinds WORDS and OTHER is seen in its words; whom OTHER names is seen there too.
+PLAIN, MOVE, ALLOC, FREE, TAKE, GIVE, WRITE, GRANT, WORDS, REPORT, POOL, OTHER = range(12)
+NOBODY, UNREAD = MAX_NUMBER + 1, MAX_NUMBER + 2
+POOL_STEP, OTHER_STEP = (POOL, NOBODY), (OTHER, UNREAD)
+# How many replies are kept with what they say.
+KNOWN_REPLIES = 1 << 14
+
+
+@functools.lru_cache(KNOWN_REPLIES)
+def refusal_in(reply):
+    """Returns the name of the refusal in a reply line that contains `refused`, or an empty text if it is no refusal."""
+    return reply.split()[-1] if told_in([reply])[:1] == ['refused'] or reply.startswith('!> refused') else ''
+
+
+@functools.lru_cache(KNOWN_REPLIES)
+def said_in(reply):
+    """Returns the first word after `T> ` or `admin> ` of a reply line, and the numbers in it: of a block, an object or a written
+    range the only number, and of a grant a tuple. Returns two empty texts for a line of another form."""
+    kind, *words = told_in([reply]) or ['']
+    if kind in ('frame', 'object', 'written') and len(words) == 1 and is_number(words[0]):
+        return kind, int(words[0])
+    if kind == 'freed' and len(words) == 1 and is_number(words[0]) and int(words[0]) <= MAX_ORDER:
+        return kind, int(words[0])
+    if kind == 'granted' and len(words) == 5 and all(map(is_number, words[::2])):
+        return kind, tuple(map(int, words[::2]))
+    return (kind, '') if kind == 'given' else ('', '')
 
 
 class Bag:
@@ -91,6 +121,12 @@ class World:
         self.most = collections.Counter()                       # by noun, such as `slots`: the most that one tenant had at a time
         self.of_admin, self.of_tenant = OF_KNOWN if is_known else OF_MADE
 
+    def rows(self, step, line, words):
+        """Returns how many lines the reply to a line with this step has."""
+        if step[0] == REPORT:
+            return 2 + self.sizes.order + len(self.tenants[step[1]].caches.keys)
+        return 1 + self.sizes.superblocks if step[0] == POOL else self.owed(line, words)
+
     def owed(self, line, words):
         """Returns how many lines the reply to a line with these words has."""
         if len(line) > MAX_LINE:
@@ -119,6 +155,73 @@ class World:
                     noted(self, words, told)
                 except (IndexError, ValueError):
                     pass
+
+    # These functions note the reply to a line with a step. They return false if the reply has another form than most.
+    def note_alloc(self, step, reply):
+        kind, frame = said_in(reply)
+        if kind != 'frame':
+            return False
+        _, number, order = step
+        tenant = self.tenants[number]
+        tenant.pages.add(frame, order)
+        tenant.frames += 1 << order
+        most, count = self.most, len(tenant.pages.keys)
+        if count > most['blocks']:
+            most['blocks'] = count
+        if tenant.frames > most['frames']:
+            most['frames'] = tenant.frames
+        return True
+
+    def note_free(self, step, reply):
+        kind, order = said_in(reply)
+        if kind != 'freed':
+            return False
+        _, number, frame = step
+        tenant = self.tenants[number]
+        if frame in tenant.pages.known:
+            tenant.pages.drop(frame)
+        tenant.freed.append(frame)
+        tenant.frames -= 1 << order
+        return True
+
+    def note_take(self, step, reply):
+        kind, place = said_in(reply)
+        if kind != 'object':
+            return False
+        tenant = self.tenants[step[1]]
+        tenant.objects.add(place, step[2])
+        if len(tenant.objects.keys) > self.most['objects']:
+            self.most['objects'] = len(tenant.objects.keys)
+        return True
+
+    def note_give(self, step, reply):
+        if said_in(reply)[0] != 'given':
+            return False
+        _, number, cache, place = step
+        tenant = self.tenants[number]
+        if place in tenant.objects.known:
+            tenant.objects.drop(place)
+        tenant.given.append((cache, place))
+        return True
+
+    def note_write(self, step, reply):
+        if said_in(reply)[0] != 'written':
+            return False
+        _, number, place, length = step
+        self.tenants[number].written.append((place, length))
+        self.offsets.append(place % (FRAME_BYTES << self.sizes.order))
+        return True
+
+    def note_grant(self, _step, reply):
+        kind, told = said_in(reply)
+        if kind != 'granted' or told[0] >= len(self.tenants):
+            return False
+        number, slot, superblock = told
+        slots = self.tenants[number].slots
+        slots.add(slot, superblock)
+        if len(slots.keys) > self.most['slots']:
+            self.most['slots'] = len(slots.keys)
+        return True
 
     def granted(self, words, told):
         tenant = self.tenants[number_in(told[1])]
@@ -173,6 +276,9 @@ class World:
             self.most[noun] = count
 
 
+# By the kind of a step, what notes the reply, if it is noted without the words of the line.
+BY_STEP = (None, None, World.note_alloc, World.note_free, World.note_take, World.note_give, World.note_write, World.note_grant,
+           None, None, None, None)
 # What is noted after the commands of the administrator and after those of a tenant: in a run whose lines are made from its
 # replies, and in a run whose lines are known.
 OF_MADE = ({'grant': World.granted, 'reset': World.was_reset, 'takeback': World.taken_back},
