@@ -11,6 +11,9 @@ from .words import in_seconds
 # How often the processor time is read, in seconds, and the most that is counted by the clock between two readings. How many ticks
 # it has a second.
 STEP, MAX_STEP, TICKS = 0.02, 0.1, os.sysconf('SC_CLK_TCK')
+# The processor time is first read after one part in STEPS_AT_FIRST of the seconds that the program may take: most replies come
+# before that, also if other programs use the processors.
+STEPS_AT_FIRST = 50
 SET_PARENT_DEATH_SIGNAL, SET_CHILD_SUBREAPER = 1, 36
 
 
@@ -68,17 +71,19 @@ class Budget:
     processor. All descendants of this process are taken for the program."""
 
     def __init__(self, seconds):
-        self.seconds, self.then, self.before = seconds, time.monotonic(), None
+        self.seconds, self.then, self.before, self.step = seconds, time.monotonic(), None, max(STEP, seconds / STEPS_AT_FIRST)
         self.by_processor = self.by_clock = 0.0
 
     def spent(self):
         return self.by_processor + self.by_clock
 
     def is_spent(self):
-        """Returns whether the seconds are over. Has to be called often. The first STEP seconds are not counted. If much more than
-        STEP has passed since the last call, this process itself waited for a processor, and the program may have ended since."""
+        """Returns whether the seconds are over. Has to be called often. Nothing is counted before the first reading. If much more
+        than STEP has passed since the last call, this process itself waited for a processor, and the program may have ended
+        since."""
         passed = time.monotonic() - self.then
-        if passed >= STEP:
+        if passed >= self.step:
+            self.step = STEP
             self.then += passed
             now, is_running = used()
             more = max(0, now - self.before) if self.before is not None else 0

@@ -1,5 +1,6 @@
 """Tests a run: partcheck judges its replies, and a tenant's replies are compared with those in another run of its own list."""
 import contextlib
+import os
 import re
 import subprocess
 import tempfile
@@ -39,6 +40,11 @@ class Case(NamedTuple):
     """A run, and its finding."""
     run: Run
     finding: Union[Breach, Failure]
+
+
+def unnamed_file():
+    """Opens a file without a name: in memory, or on systems that have no such files in a folder."""
+    return open(os.memfd_create('partmem'), 'w+b') if hasattr(os, 'memfd_create') else tempfile.TemporaryFile()
 
 
 def line_of_reply(run, tenant, number):
@@ -81,7 +87,7 @@ class Judge:
         """Runs partcheck or partmem on files with these texts. It has to end with one of these statuses. Returns the status and
         what it prints."""
         with contextlib.ExitStack() as opened:
-            files = [opened.enter_context(tempfile.TemporaryFile()) for _ in range(len(texts) + 2)]
+            files = [opened.enter_context(unnamed_file()) for _ in range(len(texts) + 2)]
             for file, text in zip(files, texts):
                 file.write(text.encode('latin-1'))
                 file.flush()
@@ -151,9 +157,9 @@ class Judge:
         return Case(run.up_to(found.finding.line), found.finding._replace(is_unsteady=True))
 
     def compared(self, run, other, tenant, when):
-        here, there = run.told(tenant), other.told(tenant)
-        if here == there:
+        if run.told_at_once(tenant) == other.told_at_once(tenant):
             return None
+        here, there = run.told(tenant), other.told(tenant)
         for at, (one, two) in enumerate(zip(here + ['nothing'], there + ['nothing']), 1):
             if one != two:
                 words = f"its reply line {at} is '{visible(one)}' here, and '{visible(two)}' {when}"

@@ -8,7 +8,7 @@ import operator
 
 from .talk import ProgramFailed
 from .words import FRAME_BYTES, MAX_BYTES, MAX_NUMBER, is_number, number_in, order_in, told_in
-from .world import BY_STEP, MOVE, OTHER_STEP, REPORT, UNREAD, World, refusal_in
+from .world import BY_STEP, MOVE, OTHER_STEP, REPORT, UNREAD, World, said_in
 
 # The most lines that are sent at once if none of them needs the reply to another.
 MAX_AT_ONCE = 256
@@ -31,7 +31,7 @@ class Run:
         self.talk, self.world = programs.start(sizes), World(sizes, is_known)
         self.sizes, self.failure, self.rest = sizes, None, ''
         self.lines, self.steps, self.answers, self.built = [], [], [], []
-        self.slowest, self.known = 0.0, {}
+        self.slowest, self.known, self.own, self.at_once = 0.0, {}, {}, {}
 
     @property
     def exchanges(self):
@@ -50,7 +50,7 @@ class Run:
         """Takes the replies to lines that are sent."""
         talk, world, answers = self.talk, self.world, self.answers
         ready, first, refused = talk.ready, len(answers), world.refused
-        pop, add = ready.popleft, answers.append
+        pop, add, by_step = ready.popleft, answers.append, BY_STEP
         try:
             for line, step in zip(lines, steps):
                 kind = step[0]
@@ -59,13 +59,14 @@ class Run:
                         talk.wait(1, len(answers))
                     reply = pop()
                     add(reply)
-                    name = refusal_in(reply) if 'refused' in reply else ''
-                    if name:
-                        refused[name] += 1
-                    elif kind > MOVE:
-                        noted = BY_STEP[kind]
-                        if noted is None or not noted(world, step, reply):
+                    if kind > MOVE:
+                        said, told = said_in(reply)
+                        if said == 'refused':
+                            refused[told] += 1
+                        elif not (by_step[kind] and by_step[kind](world, step, said, told)):
                             world.note(line.split(), [reply])
+                    elif 'refused' in reply and said_in(reply)[0] == 'refused':
+                        refused[said_in(reply)[1]] += 1
                 else:
                     words = line.split()
                     replies = talk.reply(world.rows(step, line, words), len(answers))
@@ -150,12 +151,20 @@ class Run:
         """Returns this run with its first `count` lines alone."""
         cut = copy.copy(self)
         cut.lines, cut.steps, cut.answers = self.lines[:count], self.steps[:count], self.answers[:count]
-        cut.rest, cut.known, cut.built = '', {}, []
+        cut.rest, cut.known, cut.own, cut.at_once, cut.built = '', {}, {}, {}, []
         return cut
 
     def told_lines(self):
         """Returns the replies, some of which have more than one line."""
         return [answer for answer in self.answers if answer is not None] if None in self.answers else self.answers
+
+    def told_at_once(self, tenant):
+        """Returns the replies to the tenant's lines. These are all replies that name it, if no promise is broken."""
+        if tenant not in self.at_once:
+            begin = f'{tenant}> '
+            self.at_once[tenant] = [answer for step, answer in zip(self.steps, self.answers)
+                                    if step[1] == tenant or step[1] == UNREAD and answer and answer.startswith(begin)]
+        return self.at_once[tenant]
 
     def told(self, tenant):
         """Returns the reply lines that name the tenant. May be called only after the run."""
@@ -166,12 +175,14 @@ class Run:
         return self.known[tenant]
 
     def own_list(self, tenant):
-        """Returns the tenant's commands and its resets, and those of its grants and take-backs that were not refused: the
-        lines, and by line its step and its reply."""
-        lines, steps, answers, wanted = self.lines, self.steps, self.answers, {tenant, ~tenant, UNREAD}
-        at = [at for at, step in enumerate(steps) if step[1] in wanted]
-        at = [at for at in at if steps[at][1] == tenant or self.is_own(tenant, at)]
-        return [lines[one] for one in at], [steps[one] for one in at], [answers[one] for one in at]
+        """Returns the tenant's commands and its resets, and those of its grants and take-backs that were not refused: the lines,
+        their steps and their replies. May be called only after the run."""
+        if tenant not in self.own:
+            lines, steps, answers, wanted = self.lines, self.steps, self.answers, {tenant, ~tenant, UNREAD}
+            at = [at for at, step in enumerate(steps) if step[1] in wanted]
+            at = [at for at in at if steps[at][1] == tenant or self.is_own(tenant, at)]
+            self.own[tenant] = [lines[one] for one in at], [steps[one] for one in at], [answers[one] for one in at]
+        return self.own[tenant]
 
     def is_own(self, tenant, at):
         """Returns whether a line that is no made command of the tenant is in its own list."""

@@ -27,11 +27,12 @@ SECONDS_OF_ERRORS = 0.2
 MAX_UNASKED, MAX_WAITING = 1 << 16, 1 << 20
 # The kind of failure of a program that exceeds one of these two limits.
 BABBLES = 'babbles'
-# At least how many replies have to be missing for a pause before they are read, and how long a pause is at most, in seconds.
-MANY, MAX_PAUSE = 2, 1e-3
+# At least how many replies have to be missing for a pause before they are read, how long a pause is at most, in seconds, and how
+# many bytes are read at once.
+MANY, MAX_PAUSE, MAX_PIECE = 2, 4e-3, 1 << 16
 # The least and the most seconds for each missing reply that a pause takes. They are multiplied by QUICKER if all replies are there
 # after a pause, and by SLOWER if not.
-LEAST_PACE, MOST_PACE, QUICKER, SLOWER = 1e-6, 2e-5, 0.97, 1.3
+LEAST_PACE, MOST_PACE, QUICKER, SLOWER = 1e-6, 1e-4, 0.98, 1.5
 # How many bytes of standard error are kept: at its beginning, with the words of a sanitizer or of a panic, and at its end.
 FIRST_ERRORS, LAST_ERRORS = 1 << 14, 1 << 12
 
@@ -89,7 +90,7 @@ class Talk:
                                         bufsize=0, **GROUP_OF_ITS_OWN)
         self.aborts = aborts
         self.seconds, self.sent, self.answered, self.slowest = seconds, 0, 0, 0.0
-        self.unsent, self.is_input_closed = b'', False
+        self.unsent, self.is_polled, self.is_input_closed = b'', False, False
         self.ready, self.held, self.heard = collections.deque(), '', 0
         self.first_errors, self.last_errors = b'', b''
         self.input, self.output = self.process.stdin.fileno(), self.process.stdout.fileno()
@@ -102,14 +103,16 @@ class Talk:
 
     def send(self, lines):
         """Sends lines without waiting for replies."""
-        is_waiting, self.sent = bool(self.unsent), self.sent + len(lines)
-        self.unsent = memoryview(bytes(self.unsent) + ('\n'.join(lines) + '\n').encode('latin-1'))
-        if not is_waiting:
+        text = ('\n'.join(lines) + '\n').encode('latin-1')
+        self.sent += len(lines)
+        if self.unsent:
+            self.unsent = memoryview(bytes(self.unsent) + text)
+        else:
+            self.unsent = memoryview(text)
             self.write()
 
     def write(self):
         """Writes as much as fits into the pipe. The rest is written while this process waits for replies."""
-        is_waiting = len(self.unsent)
         try:
             self.unsent = self.unsent[os.write(self.input, self.unsent):]
         except BlockingIOError:
@@ -118,9 +121,10 @@ class Talk:
             self.unsent, self.is_input_closed = b'', True
         if self.unsent:
             self.poll.register(self.input, select.POLLOUT)
-        elif is_waiting:
-            with contextlib.suppress(KeyError):
-                self.poll.unregister(self.input)
+            self.is_polled = True
+        elif self.is_polled:
+            self.poll.unregister(self.input)
+            self.is_polled = False
 
     def reply(self, owed, answered):
         """Returns the reply to the line after `answered` others, a list of `owed` lines. Raises ProgramFailed if the program does
@@ -141,40 +145,35 @@ class Talk:
 
     def wait(self, owed, answered):
         """Waits until the next `owed` lines are printed. The replies to `answered` lines are taken."""
-        self.answered, budget = answered, None
-        while len(self.ready) < owed:
-            is_heard = self.pause() and self.hear_at_once()
-            if not is_heard:
+        self.answered, budget, ready, missing = answered, None, self.ready, self.sent - answered
+        while len(ready) < owed:
+            if missing < MANY or not self.hear_after_pause(missing):
                 budget = budget or Budget(self.seconds)
                 is_heard = self.output in self.open and self.hear(time.monotonic() + STEP)
                 is_over = self.output not in self.open or not is_heard and self.has_ended() or budget.is_spent()
-                if len(self.ready) < owed and is_over:
+                if len(ready) < owed and is_over:
                     raise self.unanswered(budget)
-            if len(self.ready) < owed and self.waiting() > MAX_WAITING:
+            if len(ready) < owed and self.waiting() > MAX_WAITING:
                 raise self.babble()
         if budget:
             self.slowest = max(self.slowest, budget.spent())
 
-    def pause(self):
-        """If several replies are missing, waits for about as long as the program needed for as many before. Then many replies are
-        read at once, since most programs write each alone. Returns whether it waited."""
-        missing = self.sent - self.answered
-        if missing < MANY:
-            return False
-        time.sleep(min(missing * Talk.pace, MAX_PAUSE))
-        return True
-
-    def hear_at_once(self):
-        """Reads what is printed so far. Returns false if that is nothing."""
-        if self.output not in self.open:
-            return False
+    def hear_after_pause(self, missing):
+        """Waits for about as long as the program needs for the missing replies, as far as earlier pauses showed it. Then reads what
+        is printed. So many replies are read at once, since most programs write each alone. Returns false if nothing is read."""
+        pause = missing * Talk.pace
+        time.sleep(pause if pause < MAX_PAUSE else MAX_PAUSE)
         try:
-            self.take_piece(self.output, os.read(self.output, 1 << 16))
+            piece = os.read(self.output, MAX_PIECE) if self.output in self.open else None
         except BlockingIOError:
-            return False
-        is_all = len(self.ready) >= self.sent - self.answered
-        Talk.pace = max(LEAST_PACE, Talk.pace * QUICKER) if is_all else min(Talk.pace * SLOWER, MOST_PACE)
-        return True
+            piece = None
+        if piece is not None:
+            self.take_piece(self.output, piece)
+        if len(self.ready) < missing:
+            Talk.pace = min(Talk.pace * SLOWER, MOST_PACE)
+        elif Talk.pace > LEAST_PACE:
+            Talk.pace *= QUICKER
+        return piece is not None
 
     def taken(self, count):
         return [self.ready.popleft() for _ in range(count)]
@@ -215,7 +214,7 @@ class Talk:
             if number == self.input:
                 self.write()
                 continue
-            self.take_piece(number, os.read(number, 1 << 16))
+            self.take_piece(number, os.read(number, MAX_PIECE))
         return is_heard
 
     def take_piece(self, number, piece):
@@ -230,7 +229,9 @@ class Talk:
 
     def hold(self, piece):
         self.heard += len(piece)
-        *lines, self.held = (self.held + piece.decode('latin-1')).split('\n')
+        text = piece.decode('latin-1')
+        lines = (self.held + text if self.held else text).split('\n')
+        self.held = lines.pop()
         self.ready.extend(lines)
 
     def hold_error(self, piece):

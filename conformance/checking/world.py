@@ -21,16 +21,12 @@ KNOWN_REPLIES = 1 << 14
 
 
 @functools.lru_cache(KNOWN_REPLIES)
-def refusal_in(reply):
-    """Returns the name of the refusal in a reply line that contains `refused`, or an empty text if it is no refusal."""
-    return reply.split()[-1] if told_in([reply])[:1] == ['refused'] or reply.startswith('!> refused') else ''
-
-
-@functools.lru_cache(KNOWN_REPLIES)
 def said_in(reply):
-    """Returns the first word after `T> ` or `admin> ` of a reply line, and the numbers in it: of a block, an object or a written
-    range the only number, and of a grant a tuple. Returns two empty texts for a line of another form."""
+    """Returns what a reply line says: the first word after `T> ` or `admin> `, and the only number behind it. Behind `granted` the
+    numbers are a tuple, and behind `refused` the name of the refusal comes. Returns two empty texts for a line of another form."""
     kind, *words = told_in([reply]) or ['']
+    if kind == 'refused' or reply.startswith('!> refused'):
+        return 'refused', reply.split()[-1]
     if kind in ('frame', 'object', 'written') and len(words) == 1 and is_number(words[0]):
         return kind, int(words[0])
     if kind == 'freed' and len(words) == 1 and is_number(words[0]) and int(words[0]) <= MAX_ORDER:
@@ -156,14 +152,14 @@ class World:
                 except (IndexError, ValueError):
                     pass
 
-    # These functions note the reply to a line with a step. They return false if the reply has another form than most.
-    def note_alloc(self, step, reply):
-        kind, frame = said_in(reply)
+    # These functions note what said_in found in the reply to a line with a step. They return false if that is something else than
+    # they know.
+    def note_alloc(self, step, kind, told):
         if kind != 'frame':
             return False
         _, number, order = step
         tenant = self.tenants[number]
-        tenant.pages.add(frame, order)
+        tenant.pages.add(told, order)
         tenant.frames += 1 << order
         most, count = self.most, len(tenant.pages.keys)
         if count > most['blocks']:
@@ -172,8 +168,7 @@ class World:
             most['frames'] = tenant.frames
         return True
 
-    def note_free(self, step, reply):
-        kind, order = said_in(reply)
+    def note_free(self, step, kind, told):
         if kind != 'freed':
             return False
         _, number, frame = step
@@ -181,21 +176,20 @@ class World:
         if frame in tenant.pages.known:
             tenant.pages.drop(frame)
         tenant.freed.append(frame)
-        tenant.frames -= 1 << order
+        tenant.frames -= 1 << told
         return True
 
-    def note_take(self, step, reply):
-        kind, place = said_in(reply)
+    def note_take(self, step, kind, told):
         if kind != 'object':
             return False
         tenant = self.tenants[step[1]]
-        tenant.objects.add(place, step[2])
+        tenant.objects.add(told, step[2])
         if len(tenant.objects.keys) > self.most['objects']:
             self.most['objects'] = len(tenant.objects.keys)
         return True
 
-    def note_give(self, step, reply):
-        if said_in(reply)[0] != 'given':
+    def note_give(self, step, kind, told):
+        if kind != 'given':
             return False
         _, number, cache, place = step
         tenant = self.tenants[number]
@@ -204,16 +198,15 @@ class World:
         tenant.given.append((cache, place))
         return True
 
-    def note_write(self, step, reply):
-        if said_in(reply)[0] != 'written':
+    def note_write(self, step, kind, told):
+        if kind != 'written':
             return False
         _, number, place, length = step
         self.tenants[number].written.append((place, length))
         self.offsets.append(place % (FRAME_BYTES << self.sizes.order))
         return True
 
-    def note_grant(self, _step, reply):
-        kind, told = said_in(reply)
+    def note_grant(self, _step, kind, told):
         if kind != 'granted' or told[0] >= len(self.tenants):
             return False
         number, slot, superblock = told
