@@ -1,6 +1,5 @@
 """Runs of the program: sends lines and keeps the replies, and runs the lines of an earlier run again."""
 import bisect
-import contextlib
 import copy
 import functools
 import itertools
@@ -8,7 +7,7 @@ import operator
 
 from .talk import ProgramFailed
 from .words import FRAME_BYTES, MAX_BYTES, MAX_NUMBER, is_number, number_in, order_in, told_in
-from .world import BY_STEP, MOVE, OTHER_STEP, REPORT, UNREAD, World, said_in
+from .world import BY_STEP, MAX_LINE, MOVE, OTHER_STEP, PLAIN, REPORT, UNREAD, WORDS, World, said_in
 
 # The most lines that are sent at once if none of them needs the reply to another.
 MAX_AT_ONCE = 256
@@ -19,6 +18,8 @@ UPWARDS = [0, *reversed(POWERS)]
 DISTANCES = [*UPWARDS, *(-power for power in POWERS)]
 # How lines begin that do not change how many rows a report has. Other superblocks may be named in the replies to them.
 WITHOUT_ROWS = 'admin grant', 'admin takeback', 'admin move'
+# The commands that change which caches there are.
+OF_CACHES = ['cache'], ['destroy'], ['reset']
 # How many lines, and how many replies, are kept with their parts.
 KNOWN_TEXTS = 1 << 13
 
@@ -266,7 +267,11 @@ class Renamed:
 
     def needs(self, words, named):
         """Returns whether a line with these words has a name that an awaited reply gives. `named` is names_in(words)."""
-        return bool(self.awaited) and any(self.is_awaited(kind, words[at]) for at, kind in named)
+        if self.awaited:
+            for at, kind in named:
+                if self.is_awaited(kind, words[at]):
+                    return True
+        return False
 
     def is_awaited(self, kind, word):
         """Returns whether an awaited reply may decide what a word becomes in the other run."""
@@ -276,27 +281,36 @@ class Renamed:
 
     def note(self, words, kind, old, new):
         """Notes that the reply to these words gave the name `old` in the first run, and gives `new` in the other."""
-        with contextlib.suppress(IndexError, ValueError):
-            self.rename(words, kind, number_in(old), number_in(new))
+        try:
+            self.rename(words, kind, known_number(old), known_number(new))
+        except (IndexError, ValueError):
+            pass
 
     def rename(self, words, kind, before, now):
         if kind == 'frame':
             self.places.add(FRAME_BYTES * before, FRAME_BYTES << order_in(words[2]), FRAME_BYTES * now)
         elif kind == 'cache':
-            self.sizes[before] = number_in(words[2])
+            self.sizes[before] = known_number(words[2])
         elif kind == 'object':
-            self.places.add(before, self.sizes.get(number_in(words[2]), 1), now)
+            self.places.add(before, self.sizes.get(known_number(words[2]), 1), now)
         self.names[kind][before] = now
 
-    def line(self, words, named):
-        renamed = list(words)
+    def line(self, words, plain, named):
+        """Returns a line with the names of the other run. `plain` is the line with the names as they are."""
+        renamed = None
         for at, kind in named:
-            renamed[at] = str(self.place(int(words[at])) if kind == 'place' else self.number(kind, words[at]))
-        return ' '.join(renamed)
+            now = str(self.place(int(words[at])) if kind == 'place' else self.number(kind, words[at]))
+            if now != words[at]:
+                renamed = renamed or list(words)
+                renamed[at] = now
+        return ' '.join(renamed) if renamed else plain
 
     def number(self, kind, word):
         """Returns what a number becomes in the other run: a name, or a number at the same distance from a name."""
         names, number = self.names[kind], int(word)
+        now = names.get(number)
+        if now is not None and now <= MAX_NUMBER:
+            return word if now == number else now
         if kind == 'frame' and number not in names:
             return self.place(number * FRAME_BYTES, FRAME_BYTES) // FRAME_BYTES
         for distance in DISTANCES if names else ():
@@ -352,6 +366,18 @@ def parts_of(line):
 
 
 @functools.lru_cache(KNOWN_TEXTS)
+def step_of(line):
+    """Returns the step of a line in a run whose lines are known."""
+    words = line.split()
+    if not words or words[0][0] == '#' or len(words) == 2 or len(line) > MAX_LINE:
+        return OTHER_STEP
+    return (WORDS, UNREAD) if words[1:2] in OF_CACHES else (PLAIN, UNREAD)
+
+
+known_number = functools.lru_cache(KNOWN_TEXTS)(number_in)
+
+
+@functools.lru_cache(KNOWN_TEXTS)
 def name_from(reply):
     """Returns which kind of name a reply line gives, and the word that is the name. Both are empty texts if it gives none. The
     kind is `fault` if the reply says that the line is faulty."""
@@ -384,7 +410,7 @@ def replayed(programs, sizes, exchanges, order=None):
 
     def answered():
         count = len(run.answers)
-        run.say([line for line, *_ in sent])
+        run.say([line for line, *_ in sent], [step_of(line) for line, *_ in sent])
         for names in renamed.values():
             names.awaited.clear()
         for (_, words, names, kind, old), answer in zip(sent, run.answers[count:]):
@@ -406,7 +432,7 @@ def replayed(programs, sizes, exchanges, order=None):
             answered()
         if kind:
             names.awaits(kind, old)
-        sent.append((names.line(words, named) if named and names else line, words, names, kind, old))
+        sent.append((names.line(words, line, named) if named and names else line, words, names, kind, old))
         if run.failure:
             break
     answered()
