@@ -259,6 +259,8 @@ class Renamed:
         self.names = {'frame': {}, 'object': {}, 'cache': {}, 'slot': {}}
         self.places, self.sizes = Places(), {}                  # sizes of objects by cache
         self.awaited = set()                                    # names whose reply is not yet known, and their kinds
+        # As long as all names stay the same, each line does too, and blocks and objects are kept in a list.
+        self.is_changed, self.later = before != now, []
 
     def awaits(self, kind, old):
         """Notes that a line is sent and not yet answered. Its reply in the first run gave the name `old`."""
@@ -287,16 +289,28 @@ class Renamed:
             pass
 
     def rename(self, words, kind, before, now):
-        if kind == 'frame':
-            self.places.add(FRAME_BYTES * before, FRAME_BYTES << order_in(words[2]), FRAME_BYTES * now)
-        elif kind == 'cache':
-            self.sizes[before] = known_number(words[2])
-        elif kind == 'object':
-            self.places.add(before, self.sizes.get(known_number(words[2]), 1), now)
+        if kind != 'slot':
+            size = order_in(words[2]) if kind == 'frame' else known_number(words[2])
+            self.later.append((kind, before, size, now))
         self.names[kind][before] = now
+        self.is_changed = self.is_changed or before != now
+
+    def note_places(self):
+        """Notes where the blocks and objects of the list are."""
+        for kind, before, size, now in self.later:
+            if kind == 'frame':
+                self.places.add(FRAME_BYTES * before, FRAME_BYTES << size, FRAME_BYTES * now)
+            elif kind == 'cache':
+                self.sizes[before] = size
+            else:
+                self.places.add(before, self.sizes.get(size, 1), now)
+        self.later.clear()
 
     def line(self, words, plain, named):
         """Returns a line with the names of the other run. `plain` is the line with the names as they are."""
+        if not self.is_changed:
+            return plain
+        self.note_places()
         renamed = None
         for at, kind in named:
             now = str(self.place(int(words[at])) if kind == 'place' else self.number(kind, words[at]))
