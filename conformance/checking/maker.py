@@ -1,7 +1,7 @@
 """Makes lines. Most numbers in them name something that exists. The others are wrong, and often at an edge."""
 from typing import NamedTuple, Optional
 
-from .words import FRAME_BYTES, MAX_BYTES, MAX_NUMBER, MAX_ORDER
+from .words import FRAME_BYTES, MAX_NUMBER, MAX_ORDER
 from .world import (ALLOC, FREE, GIVE, GRANT, MOVE, NOBODY, OTHER_STEP, PLAIN, POOL_STEP, REPORT, TAKE, WORDS, WRITE, Cache)
 
 OF_TENANT = ('alloc', 'free', 'read', 'write', 'cache', 'destroy', 'take', 'give', 'reap', 'report')

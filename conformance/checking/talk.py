@@ -30,8 +30,8 @@ BABBLES = 'babbles'
 # At least how many replies have to be missing for a pause before they are read, how long a pause is at most, in seconds, and how
 # many bytes are read at once.
 MANY, MAX_PAUSE, MAX_PIECE = 2, 4e-3, 1 << 16
-# The least and the most seconds for each missing reply that a pause takes. They are multiplied by QUICKER if all replies are there
-# after a pause, and by SLOWER if not.
+# The least and the most seconds that a pause takes for each missing reply. The seconds are multiplied by QUICKER if all replies
+# are there after a pause, and by SLOWER if not.
 LEAST_PACE, MOST_PACE, QUICKER, SLOWER = 1e-6, 1e-4, 0.98, 1.5
 # How many bytes of standard error are kept: at its beginning, with the words of a sanitizer or of a panic, and at its end.
 FIRST_ERRORS, LAST_ERRORS = 1 << 14, 1 << 12
@@ -159,8 +159,9 @@ class Talk:
             self.slowest = max(self.slowest, budget.spent())
 
     def hear_after_pause(self, missing):
-        """Waits for about as long as the program needs for the missing replies, as far as earlier pauses showed it. Then reads what
-        is printed. So many replies are read at once, since most programs write each alone. Returns false if nothing is read."""
+        """Waits for about as long as the program needs for the missing replies, as far as earlier pauses showed it. Then reads
+        what is printed. So many replies are read at once, though most programs write each alone. Returns false if nothing is
+        read."""
         pause = missing * Talk.pace
         time.sleep(pause if pause < MAX_PAUSE else MAX_PAUSE)
         try:

@@ -9,10 +9,10 @@ from .words import FRAME_BYTES, FRAME_SHIFT, MAX_NUMBER, MAX_ORDER, is_number, n
 LAST = 32
 # A line with more bytes is faulty, even if it is a comment.
 MAX_LINE = 255
-# Each line that is made has a step: a tuple of its kind, of whom it names, and of the numbers that its reply is noted with. It
-# names tenant T as T if it is a command of the tenant, as ~T if it is one of the administrator, and otherwise as NOBODY. The reply
-# to a line of one of the last three kinds may have another number of lines than one. Of PLAIN and MOVE only a refusal is noted.
-# What is noted of a line of the kinds WORDS and OTHER is seen in its words; whom OTHER names is seen there too.
+# Each line that is made has a step: a tuple of its kind, of whom it names, and of the numbers that its reply is noted with. A
+# command of tenant T names T, a command of the administrator for this tenant names ~T, and any other line names NOBODY. UNREAD
+# means that only the words of the line say whom it names. The reply to a line of the last three kinds may have any number of
+# lines; all others have one. Of PLAIN and MOVE only a refusal is noted. What is noted of WORDS and OTHER depends on the words.
 PLAIN, MOVE, ALLOC, FREE, TAKE, GIVE, WRITE, GRANT, WORDS, REPORT, POOL, OTHER = range(12)
 NOBODY, UNREAD = MAX_NUMBER + 1, MAX_NUMBER + 2
 POOL_STEP, OTHER_STEP = (POOL, NOBODY), (OTHER, UNREAD)
@@ -22,8 +22,8 @@ KNOWN_REPLIES = 1 << 14
 
 @functools.lru_cache(KNOWN_REPLIES)
 def said_in(reply):
-    """Returns what a reply line says: the first word after `T> ` or `admin> `, and the only number behind it. Behind `granted` the
-    numbers are a tuple, and behind `refused` the name of the refusal comes. Returns two empty texts for a line of another form."""
+    """Returns what a reply line says: the first word after `T> ` or `admin> `, and the only number after it. For `granted` it
+    returns a tuple of numbers, and for `refused` the name of the refusal. Returns two empty texts for a line of another form."""
     kind, *words = told_in([reply]) or ['']
     if kind == 'refused' or reply.startswith('!> refused'):
         return 'refused', reply.split()[-1]
