@@ -4,11 +4,11 @@
 #[derive(Clone, Copy, Debug)]
 pub enum Bound {
     /// This number.
-    Exactly(u64),
+    Exactly(u128),
     /// This number, or more.
-    AtLeast(u64),
+    AtLeast(u128),
     /// This number, or less.
-    AtMost(u64),
+    AtMost(u128),
     /// A multiple of this number.
-    MultipleOf(u64),
+    MultipleOf(u128),
 }

@@ -37,7 +37,7 @@ fn vacant_slabs(vacant: u128, k: u8, frames: u32) -> Option<Bound>
     ensures { result ≡ vacant_slabs vacant k frames }
 {
     if u128::from(frames) > vacant {
-        return Some(Bound::AtMost(vacant as u64));
+        return Some(Bound::AtMost(vacant));
     }
     let slab = frames_of(k);
     if frames % slab != 0 {
@@ -49,11 +49,11 @@ fn vacant_slabs(vacant: u128, k: u8, frames: u32) -> Option<Bound>
 impl Tenant {
     /// Returns the number of frames that the last report counts in empty slabs of the cache `only`, or of all caches if `only` is
     /// `None`. Returns `None` if no report is valid.
-    pub(crate) fn frames_told(&self, only: Option<u32>) -> Option<u64>
+    pub(crate) fn frames_told(&self, only: Option<u32>) -> Option<u128>
         ensures { result ≡ frames_told (state_of self.now) only }
     {
         match &self.last_report {
-            Some(report) => Some(empty_frames(&self.held, report, only)),
+            Some(report) => Some(empty_frames(&self.held, report, only).into()),
             None => None,
         }
     }

@@ -204,7 +204,7 @@ impl KnownMachine {
 
     /// Returns the number of frames that the tenant's last report counts in empty slabs of the cache `only`, or of all caches if
     /// `only` is `None`. Returns `None` if no report is valid, or if the tenant does not exist.
-    pub fn frames_told(&self, tenant: u32, only: Option<u32>) -> Option<u64>
+    pub fn frames_told(&self, tenant: u32, only: Option<u32>) -> Option<u128>
         ensures { result ≡ option_map_or (λ y. frames_told (state_of y) only) (slice_get self.now.tenants tenant) None }
     {
         self.tenants.get(tenant as usize)?.frames_told(only)

@@ -57,7 +57,7 @@ fn number_wrong(machine: &KnownMachine, tenant: u32, number: u8) -> Option<Reaso
     ensures { (w : Known) → ShowsKnown machine.now w → result ≡ number_wrong w tenant number }
 {
     if number >= MAX_CACHES {
-        return Some(figure(Figure::Cache, Bound::AtMost(u64::from(MAX_CACHES) - 1)));
+        return Some(figure(Figure::Cache, Bound::AtMost(u128::from(MAX_CACHES) - 1)));
     }
     if machine.has_cache(tenant, number.into()) {
         return Some(Reason::Existing(number));
@@ -108,7 +108,7 @@ fn over_room(layout: &KnownLayout, room: u64) -> Option<Reason>
     if objects > room {
         return Some(figure(
             Figure::Objects,
-            Bound::AtMost(room / u64::from(layout.chunk)),
+            Bound::AtMost((room / u64::from(layout.chunk)).into()),
         ));
     }
     let left = room - objects;
@@ -116,7 +116,7 @@ fn over_room(layout: &KnownLayout, room: u64) -> Option<Reason>
     if colours > left {
         return Some(figure(
             Figure::Colours,
-            Bound::AtMost(left / u64::from(layout.align) + 1),
+            Bound::AtMost((left / u64::from(layout.align) + 1).into()),
         ));
     }
     None

@@ -139,7 +139,7 @@ fn not_due(figure: Figure, due: u64, told: u64) -> Option<Reason>
     }
     Some(Reason::Figure {
         figure,
-        bound: Bound::Exactly(due),
+        bound: Bound::Exactly(due.into()),
     })
 }
 
@@ -165,6 +165,6 @@ fn slot_behind(order: u8, slot: u16) -> Option<Reason>
     }
     Some(Reason::Figure {
         figure: Figure::Slot,
-        bound: Bound::AtMost((1u64 << 32) / slot_bytes - 1),
+        bound: Bound::AtMost(((1u64 << 32) / slot_bytes - 1).into()),
     })
 }
