@@ -8,3 +8,4 @@ pub mod WrongBytes
 pub mod Vacancy
 pub mod Idle
 pub mod Emptied
+pub mod WrongOwners

@@ -14,13 +14,14 @@ ghost use Rattle.reply_judge.specs.Idle.{idle_slot};
 ghost use Rattle.reply_judge.specs.Seen.{state_of};
 ghost use Rattle.reply_judge.specs.Vacancy.{left_for_block, left_for_object};
 ghost use Rattle.reply_judge.specs.WrongBytes.{wrong_byte};
+ghost use Rattle.reply_judge.specs.WrongOwners.{wrong_owner};
 ghost use Rattle.shadow_memory.specs.Left.{left_at};
 ghost use Rattle.reply_judge.specs.KnownMachine.{ShowsKnown};
 
 use crate::addressing::tenant_named;
 use crate::bound::Bound;
 use crate::faults::{BlockFault, ObjectFault};
-use crate::owners::count_of;
+use crate::owners::{count_of, wrong_owner};
 use crate::tenant::Tenant;
 use crate::vacancy::Vacancy;
 use crate::wrong_bytes::WrongByte;
@@ -122,6 +123,13 @@ impl KnownMachine {
         ensures { result ≡ slice_get self.now.owners superblock }
     {
         self.owners.get(usize::from(superblock)).copied()
+    }
+
+    /// Returns the first superblock whose owner in a table of owners is wrong, if there is one.
+    pub fn wrong_owner(&self, table: &[Option<Owner>]) -> Option<u16>
+        ensures { result ≡ wrong_owner self.now.owners table.now }
+    {
+        wrong_owner(&self.owners, table)
     }
 
     /// Returns the first wrong byte of a tenant's read of `len` bytes that begins at `place`. Returns `None` if no byte is wrong,

@@ -1,8 +1,9 @@
 //! The owners of superblocks.
 
-ghost use Rattle.std.specs.Prelude.{◌≡◌, ◌==◌, ◌&&◌, ℕ, Option, Some, false, is_none, is_some, count_by, length, map, slice_set};
+ghost use Rattle.std.specs.Prelude.{◌≡◌, ◌≤◌, ◌==◌, ◌&&◌, ℕ, Option, Some, false, is_none, is_some, count_by, length, map, slice_set};
 ghost use Rattle.std.specs.List.{list_all, slice_get, zip};
 ghost use Rattle.std.specs.Option.{option_map_or, option_eq};
+ghost use Rattle.model_core.specs.declared.limits.TheConstants.{MAX_SUPERBLOCKS};
 ghost use Rattle.model_core.specs.Owners.{owned_by, is_of, is_owner};
 ghost use Rattle.words_core.specs.declared.event.Event.TheVariants as On;
 ghost use Rattle.words_core.specs.declared.event.AdminCommand.TheVariants as Do;
@@ -10,6 +11,7 @@ ghost use Rattle.words_core.specs.declared.reply.Body.TheVariants as Say;
 ghost use Rattle.world_core.specs.World.{given_up};
 ghost use Rattle.promise_core.specs.State.{State, Known};
 ghost use Rattle.reply_judge.specs.Judged.{verdict_on};
+ghost use Rattle.reply_judge.specs.WrongOwners.{is_wrong, wrong_owner};
 
 use crate::verdict::{Verdict, on_answer};
 use arrayvec::ArrayVec;
@@ -114,6 +116,27 @@ fn is_same(a: Option<Owner>, b: Option<Owner>) -> bool
     ensures { result ≡ option_eq (λ x y. x.tenant == y.tenant && x.slot == y.slot) a b }
 {
     a == b
+}
+
+/// Returns the first superblock whose owner in the table is wrong, if there is one.
+pub(crate) fn wrong_owner(owners: &[Option<Owner>], table: &[Option<Owner>]) -> Option<u16>
+    requires { length owners.now ≤ MAX_SUPERBLOCKS }
+    ensures { result ≡ wrong_owner owners.now table.now }
+{
+    (0..owners.len() as u16).find(|superblock| is_wrong(owners, table, *superblock))
+}
+
+/// Returns whether the table has another owner for the superblock.
+fn is_wrong(owners: &[Option<Owner>], table: &[Option<Owner>], superblock: u16) -> bool
+    ensures { result ≡ is_wrong owners.now table.now superblock }
+{
+    match owners.get(usize::from(superblock)) {
+        Some(owner) => match table.get(usize::from(superblock)) {
+            Some(told) => !is_same(*told, *owner),
+            None => true,
+        },
+        None => table.get(usize::from(superblock)).is_some(),
+    }
 }
 
 /// Makes this slot of the tenant the owner of the superblock, if the superblock exists.

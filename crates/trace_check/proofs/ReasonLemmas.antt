@@ -1,6 +1,6 @@
 -- The reasons that are worked out for some promises alone.
-use Rattle.std.proofs.Common.{◌≡◌, ◌∙◌, ℕ, Bool, true, List, Option, Some, None, length, slice_get, refl, sym, ap}
-use Rattle.std.specs.Prelude.{◌==◌, MatchOption, filter, if◌then◌else◌, option_map}
+use Rattle.std.proofs.Common.{◌≡◌, ◌∙◌, ℕ, Bool, true, List, Option, Some, None, length, slice_get, refl, sym, ap, subst}
+use Rattle.std.specs.Prelude.{◌==◌, filter, if◌then◌else◌, option_map}
 use Rattle.std.specs.Option.{option_map_or}
 use Rattle.std.proofs.lemmas.Bool.{eq-eqb}
 use Rattle.std.proofs.lemmas.Option.{slice_get-map}
@@ -18,16 +18,40 @@ use Rattle.reply_judge.specs.Seen.{Seen, state_of}
 use Rattle.reply_judge.specs.WrongBytes.{wrong_byte}
 use Rattle.reply_judge.specs.declared.wrong_bytes.WrongByte.{WrongByte}
 use Rattle.shadow_memory.specs.Left.{left_at}
-use Rattle.trace_check.specs.Reasons.{IsReason, IsReasonOf, frames_wrong, read_wrong, slot_idle, still_wrong}
+use Rattle.trace_check.specs.Forms.{◌>>=◌}
+use Rattle.trace_check.specs.Gathered.{whole_of}
+use Rattle.trace_check.specs.Reasons.{IsReason, IsReasonIn, IsReasonOf, answer_read, frames_wrong, read_wrong, slot_idle, still_wrong, table_read, table_wrong}
+use Rattle.trace_check.specs.Replies.{answer_of}
+use Rattle.trace_check.specs.Tables.{table_of}
 use Rattle.trace_check.specs.declared.figure.Figure.{Figure}
 use Rattle.trace_check.specs.declared.reason.Reason.{Reason}
+use Rattle.trace_check.specs.declared.shown.TheConstants.{MAX_TEXT_BYTES}
 
--- the reason why a reply breaks a promise other than Form and Refusals is the reason that its answer gives
-pub in_reply : (promise : Promise) (w : Known) (event : Event) (reply : Option Reply) (reason : Option Reason) → (promise ≡ Promise.Form → ⊥) → (promise ≡ Promise.Refusals → ⊥)
-    → MatchOption reply (reason ≡ None) (λ told. IsReasonOf promise w event told.body reason) → IsReason promise w event reply reason
-in_reply Promise.Form w event reply reason other-1 other-2 is = absurd (other-1 refl)
-in_reply Promise.Refusals w event reply reason other-1 other-2 is = absurd (other-2 refl)
-in_reply promise w event reply reason other-1 other-2 is = is
+-- the reason why a reply breaks a promise other than Form and Refusals is the reason that its answer or its table gives
+pub in_reply : (promise : Promise) (w : Known) (event : Event) (answer table : Option Reply) (reason : Option Reason) → (promise ≡ Promise.Form → ⊥) → (promise ≡ Promise.Refusals → ⊥)
+    → IsReasonIn promise w event answer table reason → IsReason promise w event answer table reason
+in_reply Promise.Form w event answer table reason other-1 other-2 is = absurd (other-1 refl)
+in_reply Promise.Refusals w event answer table reason other-1 other-2 is = absurd (other-2 refl)
+in_reply promise w event answer table reason other-1 other-2 is = is
+
+-- if the text is an answer, its reason is the reason in the reply
+pub answer_gives : (promise : Promise) (w : Known) (event : Event) (text came : List ℕ) (found : Reply) (reason : Option Reason)
+    → whole_of MAX_TEXT_BYTES came ≡ Some text → answer_of text ≡ Some found → IsReasonOf promise w event found.body reason
+    → IsReasonIn promise w event (answer_read came) (table_read came) reason
+answer_gives promise w event text came found reason whole read is =
+    let answer : answer_read came ≡ Some found = ap (λ (o : Option (List ℕ)). o >>= answer_of) whole ∙ read in
+    subst (λ (o : Option Reply). IsReasonIn promise w event o (table_read came) reason) (sym answer) is
+
+-- if the text is no answer, the reason of the table that it is, if it is one, is the reason in the reply
+pub table_gives : (promise : Promise) (w : Known) (event : Event) (text came : List ℕ) (reason : Option Reason)
+    → whole_of MAX_TEXT_BYTES came ≡ Some text → answer_of text ≡ None
+    → reason ≡ option_map_or (λ told. table_wrong promise w event told.body) (table_of text) None
+    → IsReasonIn promise w event (answer_read came) (table_read came) reason
+table_gives promise w event text came reason whole read is =
+    let answer : answer_read came ≡ None = ap (λ (o : Option (List ℕ)). o >>= answer_of) whole ∙ read in
+    let table : table_read came ≡ table_of text = ap (λ (o : Option (List ℕ)). o >>= table_of) whole in
+    subst (λ (o : Option Reply). IsReasonIn promise w event o (table_read came) reason) (sym answer)
+    (is ∙ ap (λ (o : Option Reply). option_map_or (λ told. table_wrong promise w event told.body) o None) (sym table))
 
 pub none_given : (promise : Promise) (w : Known) (event : Event) (body : Body) → (promise ≡ Promise.Blocks → ⊥) → (promise ≡ Promise.Gives → ⊥)
     → (promise ≡ Promise.Owners → ⊥) → (promise ≡ Promise.Bytes → ⊥)

@@ -20,14 +20,16 @@ use Rattle.reply_judge.specs.Faults.{block_fault, object_fault}
 use Rattle.reply_judge.specs.Idle.{idle_slot}
 use Rattle.reply_judge.specs.Vacancy.{left_for_block, left_for_object}
 use Rattle.reply_judge.specs.WrongBytes.{wrong_byte}
+use Rattle.reply_judge.specs.WrongOwners.{wrong_owner}
 use Rattle.reply_judge.specs.declared.vacancy.Vacancy.{Vacancy}
 use Rattle.trace_check.specs.Forms.{◌>>=◌}
 use Rattle.trace_check.specs.Gathered.{whole_of}
 use Rattle.trace_check.specs.Kinds.{kind_of_admin, kind_of_command}
 use Rattle.trace_check.specs.NewCache.{layout_wrong, number_wrong}
-use Rattle.trace_check.specs.Owners.{grant_wrong, move_wrong, reset_wrong}
+use Rattle.trace_check.specs.Owners.{grant_wrong, move_wrong, not_due, reset_wrong}
 use Rattle.trace_check.specs.Reading.{without_line_feed}
 use Rattle.trace_check.specs.Replies.{answer_of}
+use Rattle.trace_check.specs.Tables.{table_of}
 use Rattle.trace_check.specs.Taken.{IsInWay}
 use Rattle.reply_judge.specs.declared.bound.Bound.{Bound}
 use Rattle.trace_check.specs.declared.figure.Figure.{Figure}
@@ -43,6 +45,10 @@ event_read (Err fault) = None
 -- the reply, if this text was read as a reply of one line
 abbrev pub answer_read : List ℕ → Option Reply
 answer_read text = whole_of MAX_TEXT_BYTES text >>= answer_of
+
+-- the report or the table of owners, if this text was read as one
+abbrev pub table_read : List ℕ → Option Reply
+table_read text = whole_of MAX_TEXT_BYTES text >>= table_of
 
 -- what keeps the reply's page block from being allocated, if it shares no frame with a page block
 abbrev pub unfit_block : Known → Event → Body → Option Reason
@@ -74,6 +80,14 @@ abbrev pub not_lost : ℕ → Option (Option Owner) → Option Reason
 not_lost m None = Some (Reason.Missing m)
 not_lost m (Some None) = Some (Reason.Unowned m)
 not_lost m (Some (Some owner)) = Some (Reason.Owned m owner)
+
+-- the owner of the first superblock whose owner in the table is wrong
+abbrev pub owner_wrong : Known → List (Option Owner) → Option Reason
+owner_wrong w table = option_map_or (λ m. not_lost m (slice_get w.owners m)) (wrong_owner w.owners table) None
+
+-- what is wrong with the table of owners: it has too few or too many rows, or else a superblock has another owner
+abbrev pub pool_wrong : Known → List (Option Owner) → Option Reason
+pool_wrong w table = option_or (not_due Figure.Superblocks (length w.owners) (length table)) (owner_wrong w table)
 
 -- the owner of the superblock that the reply reports, if a tenant may not get it or lose it
 abbrev pub owner_in_way : Known → Event → Body → Option Reason
@@ -168,20 +182,30 @@ IsReasonOf Promise.Layout w event body reason = reason ≡ new_cache_wrong w eve
 IsReasonOf Promise.Still w event body reason = reason ≡ frames_still w event body
 IsReasonOf promise w event body reason = reason ≡ None
 
+-- the reason why a report or a table of owners breaks this promise
+abbrev pub table_wrong : Promise → Known → Event → Body → Option Reason
+table_wrong Promise.Owners w (Event.Admin AdminCommand.Pool) (Body.Owners table) = pool_wrong w table.items
+table_wrong promise w event body = None
+
+-- The reason why the reply breaks a promise other than Form and Refusals. `answer` is None if the reply is not a reply of one line,
+-- and `table` is None if it is neither a report nor a table of owners.
+abbrev pub IsReasonIn : Promise → Known → Event → (answer table : Option Reply) → Option Reason → Type 0
+IsReasonIn promise w event answer table reason =
+    MatchOption answer (reason ≡ option_map_or (λ told. table_wrong promise w event told.body) table None) (λ told. IsReasonOf promise w event told.body reason)
+
 -- whom the reply to an event has to go to, and the kind of answer that the event has; a tenant that does not exist gets no answer
 abbrev pub form_due : Known → Event → Reason
 form_due w (Event.Tenant t command) = if is_some (slice_get w.states t) then Reason.ToTenant t (kind_of_command command) else Reason.ToNobody
 form_due w (Event.Admin command) = Reason.ToAdmin (kind_of_admin command)
 
 -- The reason why the reply breaks this promise: for Form the replies that are due, and for Refusals the refusal that was due.
--- `reply` is None if the reply is not a reply of one line.
-abbrev pub IsReason : Promise → Known → Event → Option Reply → Option Reason → Type 0
-IsReason Promise.Form w event reply reason = reason ≡ Some (form_due w event)
-IsReason Promise.Refusals w event reply reason = reason ≡ Some (Reason.Due (refusal_due w event))
-IsReason promise w event reply reason = MatchOption reply (reason ≡ None) (λ told. IsReasonOf promise w event told.body reason)
+abbrev pub IsReason : Promise → Known → Event → (answer table : Option Reply) → Option Reason → Type 0
+IsReason Promise.Form w event answer table reason = reason ≡ Some (form_due w event)
+IsReason Promise.Refusals w event answer table reason = reason ≡ Some (Reason.Due (refusal_due w event))
+IsReason promise w event answer table reason = IsReasonIn promise w event answer table reason
 
 -- If the line was read as an event, and `w` is what is known before the reply, the reason for the breach of this promise is
 -- noted. Otherwise the note is unchanged.
 abbrev pub IsNoted : Promise → (trace_text reply_text : List ℕ) → Known → (old new : Option Reason) → Type 0
 IsNoted promise trace_text reply_text w old new = MatchOption (event_read (reading_of (without_line_feed trace_text))) (new ≡ old)
-    (λ event. IsReason promise w event (answer_read reply_text) new)
+    (λ event. IsReason promise w event (answer_read reply_text) (table_read reply_text) new)

@@ -19,6 +19,6 @@ pub enum Figure {
     Tenant,
     /// The number of a slot.
     Slot,
-    /// The number of superblocks that a reset tenant had.
+    /// The number of superblocks that a reset tenant had, or that the table of owners lists.
     Superblocks,
 }

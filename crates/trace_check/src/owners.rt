@@ -1,4 +1,4 @@
-//! Which number of the reply to a grant, a move, a take-back or a reset is wrong.
+//! Which number of the reply to a grant, a move, a take-back or a reset is wrong, and which row of the table of owners.
 
 ghost use Rattle.std.specs.Prelude.{◌≡◌, ◌+◌, ◌-◌, ◌*◌, ◌/◌, ◌^◌, ◌≤◌, slice_get};
 ghost use Rattle.std.specs.Option.{option_or};
@@ -7,11 +7,12 @@ ghost use Rattle.words_core.specs.Requests.{body_of_answer};
 ghost use Rattle.promise_core.specs.State.{Known};
 ghost use Rattle.reply_judge.specs.KnownMachine.{ShowsKnown};
 ghost use Rattle.trace_check.specs.Owners.{grant_wrong, move_wrong, not_due, reset_wrong, slot_behind, slot_wrong};
-ghost use Rattle.trace_check.specs.Reasons.{change_wrong, not_gained, not_lost, owner_in_way};
+ghost use Rattle.trace_check.specs.Reasons.{change_wrong, not_gained, not_lost, owner_in_way, owner_wrong, pool_wrong};
 
 use crate::figure::Figure;
 use crate::reason::Reason;
 use model_core::limits::FRAME_BYTES;
+use model_core::owner::Owner;
 use reply_judge::{Bound, KnownMachine};
 use words_core::{AdminCommand, Answer, Event};
 
@@ -68,6 +69,24 @@ fn not_lost(machine: &KnownMachine, superblock: u16) -> Option<Reason>
         Some(None) => Some(Reason::Unowned(superblock)),
         None => Some(Reason::Missing(superblock)),
     }
+}
+
+/// Returns what is wrong with the table of owners.
+pub(crate) fn pool_wrong(machine: &KnownMachine, table: &[Option<Owner>]) -> Option<Reason>
+    ensures { (w : Known) → ShowsKnown machine.now w → result ≡ pool_wrong w table.now }
+{
+    let due = machine.superblocks() as u64;
+    match not_due(Figure::Superblocks, due, table.len() as u64) {
+        Some(reason) => Some(reason),
+        None => owner_wrong(machine, table),
+    }
+}
+
+/// Returns the owner of the first superblock whose owner in the table is wrong.
+fn owner_wrong(machine: &KnownMachine, table: &[Option<Owner>]) -> Option<Reason>
+    ensures { (w : Known) → ShowsKnown machine.now w → result ≡ owner_wrong w table.now }
+{
+    not_lost(machine, machine.wrong_owner(table)?)
 }
 
 /// Returns which number of the answer to a grant, a move or a reset is wrong, if the superblock is not.

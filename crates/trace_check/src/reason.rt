@@ -1,12 +1,14 @@
 //! Why a reply breaks a promise.
 
-ghost use Rattle.std.specs.Prelude.{◌≡◌, ℕ, List, None, MatchOption, option_map};
+ghost use Rattle.std.specs.Prelude.{◌≡◌, ℕ, List, None, option_map};
+ghost use Rattle.std.specs.Option.{option_map_or};
 ghost use Rattle.words_core.specs.Requests.{body_of_answer};
 ghost use Rattle.promise_core.specs.State.{Known};
 ghost use Rattle.reply_judge.specs.KnownMachine.{ShowsKnown};
 ghost use Rattle.trace_check.specs.Gathered.{Gathers};
-ghost use Rattle.trace_check.specs.Reasons.{IsBlockReason, IsReason, IsReasonOf, answer_read, bytes_wrong, form_due, left_for, not_busy};
-ghost use Rattle.trace_check.specs.Reasons.{read_wrong, slot_idle, unfit_block, unfit_object};
+ghost use Rattle.trace_check.specs.Reasons.{IsBlockReason, IsReason, IsReasonIn, IsReasonOf, answer_read, bytes_wrong, form_due, left_for, not_busy};
+ghost use Rattle.trace_check.specs.Reasons.{read_wrong, slot_idle, table_read, table_wrong, unfit_block, unfit_object};
+ghost use Rattle.trace_check.specs.Tables.{table_of};
 ghost use Rattle.trace_check.specs.declared.reason.Reason.TheVariants as Why;
 
 use crate::answer::read_answer;
@@ -15,15 +17,16 @@ use crate::frames::{gives_reason, still_reason};
 use crate::gathered::Gathered;
 use crate::kinds::{AnswerKind, kind_of_admin, kind_of_command};
 use crate::new_cache::layout_reason;
-use crate::owners::owners_reason;
+use crate::owners::{owners_reason, pool_wrong};
 use crate::shown::MAX_TEXT_BYTES;
+use crate::table::read_table;
 use crate::taken::{TakenFrame, taken_frame};
 use known_holdings::FrameBlock;
 use model_core::limits::{MAX_BYTES, MAX_ORDER};
 use model_core::owner::Owner;
 use promise_core::promise::Promise;
 use reply_judge::{BlockFault, Bound, KnownMachine, ObjectFault, Vacancy, WrongByte};
-use words_core::{AdminCommand, Answer, Command, Event, Refusal};
+use words_core::{AdminCommand, Answer, Body, Command, Event, Refusal};
 
 /// Why a reply breaks a promise.
 #[derive(Clone, Copy, Debug)]
@@ -48,12 +51,12 @@ pub enum Reason {
         block: FrameBlock,
         fault: BlockFault,
     },
-    /// `Owners`: the reply's superblock has this owner.
+    /// `Owners`: the reply's superblock, or the first one whose owner in the table is wrong, has this owner.
     Owned {
         superblock: u16,
         owner: Owner,
     },
-    /// `Owners`: the reply's superblock has no owner.
+    /// `Owners`: the reply's superblock, or the first one whose owner in the table is wrong, has no owner.
     Unowned(u16),
     /// `Owners`: the reply's superblock does not exist.
     Missing(u16),
@@ -92,7 +95,7 @@ pub(crate) fn reason_for(
     reply: &Gathered<MAX_TEXT_BYTES>,
 ) -> Option<Reason>
     ensures { (text : List ℕ) (w : Known) → Gathers MAX_TEXT_BYTES text reply.now → ShowsKnown machine.now w
-        → IsReason promise w event.now (answer_read text) result }
+        → IsReason promise w event.now (answer_read text) (table_read text) result }
 {
     match promise {
         Promise::Form => Some(form_due(machine, event)),
@@ -117,7 +120,7 @@ fn form_due(machine: &KnownMachine, event: &Event) -> Reason
     }
 }
 
-/// Does the same as [`reason_for`] for the other promises. Returns `None` if the reply is not a reply of one line.
+/// Does the same as [`reason_for`] for the other promises.
 fn reason_in_reply(
     machine: &KnownMachine,
     promise: Promise,
@@ -125,12 +128,48 @@ fn reason_in_reply(
     reply: &Gathered<MAX_TEXT_BYTES>,
 ) -> Option<Reason>
     ensures { (text : List ℕ) (w : Known) → Gathers MAX_TEXT_BYTES text reply.now → ShowsKnown machine.now w
-        → MatchOption (answer_read text) (result ≡ None) (λ told. IsReasonOf promise w event.now told.body result) }
+        → IsReasonIn promise w event.now (answer_read text) (table_read text) result }
 {
     let text = reply.whole()?;
     let mut buffer = [0; MAX_BYTES];
-    let (_, answer) = read_answer(text, &mut buffer)?;
-    reason_in_answer(machine, promise, event, &answer)
+    match read_answer(text, &mut buffer) {
+        Some((_, answer)) => reason_in_answer(machine, promise, event, &answer),
+        None => reason_in_table(machine, promise, event, text),
+    }
+}
+
+/// Returns why the report or the table of owners with this text breaks the promise. Returns `None` if the text is neither. A table
+/// needs a large buffer, which is cleared when this function is entered, so the function is not inlined.
+#[cold]
+#[inline(never)]
+fn reason_in_table(
+    machine: &KnownMachine,
+    promise: Promise,
+    event: &Event,
+    text: &[u8],
+) -> Option<Reason>
+    ensures { (w : Known) → ShowsKnown machine.now w
+        → result ≡ option_map_or (λ told. table_wrong promise w event.now told.body) (table_of text.now) None }
+{
+    let table = read_table(text)?;
+    table_wrong(machine, promise, event, &table.body)
+}
+
+/// Returns why the report or the table of owners breaks the promise.
+fn table_wrong(
+    machine: &KnownMachine,
+    promise: Promise,
+    event: &Event,
+    table: &Body,
+) -> Option<Reason>
+    ensures { (w : Known) → ShowsKnown machine.now w → result ≡ table_wrong promise w event.now table.now }
+{
+    match (promise, event, table) {
+        (Promise::Owners, Event::Admin(AdminCommand::Pool), Body::Owners(owners)) => {
+            pool_wrong(machine, owners.as_slice())
+        }
+        _ => None,
+    }
 }
 
 /// Returns why the answer to the event breaks the promise.
