@@ -6,6 +6,8 @@ use Rattle.promise_core.specs.declared.promise.Promise.{Promise}
 use Rattle.reply_judge.specs.declared.bound.Bound.{Bound}
 use Rattle.reply_judge.specs.declared.faults.BlockFault.{BlockFault}
 use Rattle.reply_judge.specs.declared.faults.ObjectFault.{ObjectFault}
+use Rattle.reply_judge.specs.declared.figures.ReportFigure.{ReportFigure}
+use Rattle.reply_judge.specs.declared.figures.WrongFigure.{WrongFigure}
 use Rattle.reply_judge.specs.declared.vacancy.Vacancy.{Vacancy}
 use Rattle.reply_judge.specs.declared.wrong_bytes.WrongByte.{WrongByte}
 use Rattle.trace_check.specs.declared.figure.Figure.{Figure}
@@ -122,12 +124,25 @@ name_of_figure Figure.Tenant = codes "tenant"
 name_of_figure Figure.Slot = codes "slot"
 name_of_figure Figure.Superblocks = codes "number of superblocks"
 
+-- the words for a bound within which a number has to be
+abbrev pub bound_text : Bound → List ℕ
+bound_text (Bound.Exactly n) = codes " has to be " ++ decimal n
+bound_text (Bound.AtLeast n) = codes " has to be at least " ++ decimal n
+bound_text (Bound.AtMost n) = codes " has to be at most " ++ decimal n
+bound_text (Bound.MultipleOf n) = codes " has to be a multiple of " ++ decimal n
+
 -- the words for a number that has to be within a bound
 abbrev pub figure_text : Figure → Bound → List ℕ
-figure_text figure (Bound.Exactly n) = codes "the " ++ (name_of_figure figure ++ (codes " has to be " ++ decimal n))
-figure_text figure (Bound.AtLeast n) = codes "the " ++ (name_of_figure figure ++ (codes " has to be at least " ++ decimal n))
-figure_text figure (Bound.AtMost n) = codes "the " ++ (name_of_figure figure ++ (codes " has to be at most " ++ decimal n))
-figure_text figure (Bound.MultipleOf n) = codes "the " ++ (name_of_figure figure ++ (codes " has to be a multiple of " ++ decimal n))
+figure_text figure bound = codes "the " ++ (name_of_figure figure ++ bound_text bound)
+
+-- the name of a number in a report
+abbrev pub name_in_report : ReportFigure → List ℕ
+name_in_report (ReportFigure.FreeBlocks k) = codes "number of free blocks of order " ++ decimal k
+name_in_report (ReportFigure.EmptySlabs number) = codes "number of empty slabs of cache " ++ decimal number
+
+-- the words for a wrong number in a report
+abbrev pub report_text : WrongFigure → List ℕ
+report_text wrong = codes "the " ++ (name_in_report wrong.figure ++ bound_text wrong.bound)
 
 -- the words for a cache that the tenant has already
 abbrev pub existing_text : ℕ → List ℕ
@@ -183,6 +198,7 @@ reason_text promise (Some (Reason.Object place fault)) = object_text place fault
 reason_text promise (Some (Reason.Left vacancy)) = left_text vacancy
 reason_text promise (Some (Reason.Idle slot)) = idle_text slot
 reason_text promise (Some (Reason.Figure figure bound)) = figure_text figure bound
+reason_text promise (Some (Reason.Report wrong)) = report_text wrong
 reason_text promise (Some (Reason.Held slot)) = held_text slot
 reason_text promise (Some (Reason.Existing number)) = existing_text number
 reason_text promise (Some Reason.NotTakeBack) = codes "only a takeback may be refused 15 SlotBusy"

@@ -2,15 +2,15 @@
 
 ghost use Rattle.std.specs.Prelude.{◌≡◌, ◌<◌, OnOk, Some};
 ghost use Rattle.std.specs.Io.KnownBytes.{Appends};
-ghost use Rattle.partcheck.specs.Reasons.{admin_text, count_text, due_bytes_text, due_text, existing_text, figure_text, form_of_kind, freed_text};
+ghost use Rattle.partcheck.specs.Reasons.{admin_text, bound_text, count_text, due_bytes_text, due_text, existing_text, figure_text, form_of_kind, freed_text};
 ghost use Rattle.partcheck.specs.Reasons.{held_text, hex_digit, hex_text, idle_text, left_text, tenant_text};
-ghost use Rattle.partcheck.specs.Reasons.{missing_text, name_of_figure, object_text, owned_text, reason_text, slab_over_text, taken_text};
+ghost use Rattle.partcheck.specs.Reasons.{missing_text, name_in_report, name_of_figure, object_text, owned_text, reason_text, report_text, slab_over_text, taken_text};
 ghost use Rattle.partcheck.specs.Reasons.{unfit_text, unowned_text, words_of_promise, wrong_text};
 
 use known_holdings::FrameBlock;
 use model_core::owner::Owner;
 use promise_core::promise::Promise;
-use reply_judge::{BlockFault, Bound, ObjectFault, Vacancy, WrongByte};
+use reply_judge::{BlockFault, Bound, ObjectFault, ReportFigure, Vacancy, WrongByte, WrongFigure};
 use std::io::{self, Write};
 use trace_check::{AnswerKind, Figure, Reason, TakenFrame};
 use words_core::Refusal;
@@ -41,6 +41,7 @@ pub(crate) fn write_reason<W: Write>(
         Some(Reason::Idle(slot)) => write_idle(out, *slot),
         Some(Reason::NotTakeBack) => out.write_all(b"only a takeback may be refused 15 SlotBusy"),
         Some(Reason::Figure { figure, bound }) => write_figure(out, *figure, *bound),
+        Some(Reason::Report(wrong)) => write_report(out, wrong),
         Some(Reason::Held(slot)) => write_held(out, *slot),
         Some(Reason::Existing(number)) => write_existing(out, *number),
         None => out.write_all(words_of(promise).as_bytes()),
@@ -276,11 +277,19 @@ fn write_figure<W: Write>(out: &mut W, figure: Figure, bound: Bound) -> io::Resu
     ensures { OnOk result (Appends (W.contents out.old) (W.contents out.new) (figure_text figure bound)) }
 {
     let name = name_of_figure(figure);
+    write!(out, "the {name}")?;
+    write_bound(out, bound)
+}
+
+/// Writes the words for a bound.
+fn write_bound<W: Write>(out: &mut W, bound: Bound) -> io::Result<()>
+    ensures { OnOk result (Appends (W.contents out.old) (W.contents out.new) (bound_text bound)) }
+{
     match bound {
-        Bound::Exactly(number) => write!(out, "the {name} has to be {number}"),
-        Bound::AtLeast(number) => write!(out, "the {name} has to be at least {number}"),
-        Bound::AtMost(number) => write!(out, "the {name} has to be at most {number}"),
-        Bound::MultipleOf(number) => write!(out, "the {name} has to be a multiple of {number}"),
+        Bound::Exactly(number) => write!(out, " has to be {number}"),
+        Bound::AtLeast(number) => write!(out, " has to be at least {number}"),
+        Bound::AtMost(number) => write!(out, " has to be at most {number}"),
+        Bound::MultipleOf(number) => write!(out, " has to be a multiple of {number}"),
     }
 }
 
@@ -298,6 +307,25 @@ fn name_of_figure(figure: Figure) -> &'static str
         Figure::Tenant => "tenant",
         Figure::Slot => "slot",
         Figure::Superblocks => "number of superblocks",
+    }
+}
+
+/// Writes within which bound a number of a report has to be.
+fn write_report<W: Write>(out: &mut W, wrong: &WrongFigure) -> io::Result<()>
+    ensures { OnOk result (Appends (W.contents out.old) (W.contents out.new) (report_text wrong.now)) }
+{
+    out.write_all(b"the ")?;
+    write_name_in_report(out, wrong.figure)?;
+    write_bound(out, wrong.bound)
+}
+
+/// Writes the name of a number in a report.
+fn write_name_in_report<W: Write>(out: &mut W, figure: ReportFigure) -> io::Result<()>
+    ensures { OnOk result (Appends (W.contents out.old) (W.contents out.new) (name_in_report figure)) }
+{
+    match figure {
+        ReportFigure::FreeBlocks(order) => write!(out, "number of free blocks of order {order}"),
+        ReportFigure::EmptySlabs(cache) => write!(out, "number of empty slabs of cache {cache}"),
     }
 }
 

@@ -9,3 +9,5 @@ pub mod Vacancy
 pub mod Idle
 pub mod Emptied
 pub mod WrongOwners
+pub mod Figures
+pub mod Repeated

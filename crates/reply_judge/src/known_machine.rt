@@ -11,6 +11,7 @@ ghost use Rattle.reply_judge.specs.Due.{refusal_due};
 ghost use Rattle.reply_judge.specs.Faults.{block_fault, object_fault};
 ghost use Rattle.reply_judge.specs.Emptied.{frames_due, frames_told};
 ghost use Rattle.reply_judge.specs.Idle.{idle_slot};
+ghost use Rattle.reply_judge.specs.Repeated.{figure_changed};
 ghost use Rattle.reply_judge.specs.Seen.{state_of};
 ghost use Rattle.reply_judge.specs.Vacancy.{left_for_block, left_for_object};
 ghost use Rattle.reply_judge.specs.WrongBytes.{wrong_byte};
@@ -21,6 +22,7 @@ ghost use Rattle.reply_judge.specs.KnownMachine.{ShowsKnown};
 use crate::addressing::tenant_named;
 use crate::bound::Bound;
 use crate::faults::{BlockFault, ObjectFault};
+use crate::figures::WrongFigure;
 use crate::owners::{count_of, wrong_owner};
 use crate::tenant::Tenant;
 use crate::vacancy::Vacancy;
@@ -29,7 +31,7 @@ use known_holdings::FrameBlock;
 use model_core::owner::Owner;
 use std::alloc::{AllocError, Global};
 use std::marker::Model;
-use words_core::{Event, Refusal};
+use words_core::{Event, Refusal, Report};
 
 /// What replies reported about a machine: the owner of each superblock, and what each tenant has.
 #[derive(Debug, Drop)]
@@ -216,6 +218,14 @@ impl KnownMachine {
         ensures { result ≡ option_map_or (λ y. frames_told (state_of y) only) (slice_get self.now.tenants tenant) None }
     {
         self.tenants.get(tenant as usize)?.frames_told(only)
+    }
+
+    /// Returns the first number of the tenant's last report that the report has to repeat, and does not. Returns `None` if no
+    /// report is valid, or if the tenant does not exist.
+    pub fn figure_changed(&self, tenant: u32, report: &Report) -> Option<WrongFigure>
+        ensures { result ≡ option_map_or (λ y. figure_changed (state_of y) report.now) (slice_get self.now.tenants tenant) None }
+    {
+        self.tenants.get(tenant as usize)?.figure_changed(report)
     }
 
     /// Returns whether the tenant exists and holds the slot.

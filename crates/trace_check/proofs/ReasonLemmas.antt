@@ -7,6 +7,7 @@ use Rattle.std.proofs.lemmas.Option.{slice_get-map}
 use Rattle.words_core.specs.declared.reply.Body.{Body}
 use Rattle.words_core.specs.declared.event.Event.{Event}
 use Rattle.words_core.specs.declared.reply.Reply.{Reply}
+use Rattle.words_core.specs.declared.report.Report.{Report}
 use Rattle.promise_core.specs.declared.promise.Promise.{Promise}
 use Rattle.promise_core.specs.Holdings.{KnownCache}
 use Rattle.promise_core.specs.State.{Known, State}
@@ -14,13 +15,15 @@ use Rattle.reply_judge.specs.declared.bound.Bound.{Bound}
 use Rattle.reply_judge.specs.Emptied.{frames_due, frames_told}
 use Rattle.reply_judge.specs.Idle.{idle_slot}
 use Rattle.reply_judge.specs.KnownMachine.{SeenMachine, known_of}
+use Rattle.reply_judge.specs.Repeated.{figure_changed}
 use Rattle.reply_judge.specs.Seen.{Seen, state_of}
+use Rattle.reply_judge.specs.declared.figures.WrongFigure.{WrongFigure}
 use Rattle.reply_judge.specs.WrongBytes.{wrong_byte}
 use Rattle.reply_judge.specs.declared.wrong_bytes.WrongByte.{WrongByte}
 use Rattle.shadow_memory.specs.Left.{left_at}
 use Rattle.trace_check.specs.Forms.{◌>>=◌}
 use Rattle.trace_check.specs.Gathered.{whole_of}
-use Rattle.trace_check.specs.Reasons.{IsReason, IsReasonIn, IsReasonOf, answer_read, frames_wrong, read_wrong, slot_idle, still_wrong, table_read, table_wrong}
+use Rattle.trace_check.specs.Reasons.{IsReason, IsReasonIn, IsReasonOf, answer_read, frames_wrong, read_wrong, report_changed, slot_idle, still_wrong, table_read, table_wrong}
 use Rattle.trace_check.specs.Replies.{answer_of}
 use Rattle.trace_check.specs.Tables.{table_of}
 use Rattle.trace_check.specs.declared.figure.Figure.{Figure}
@@ -107,6 +110,14 @@ frames_still_told x t only found is = ap (option_map (λ frames. Reason.Figure F
     ∙ told_of x t (λ frames. Reason.Figure Figure.Frames (Bound.Exactly frames))
     (λ s. option_map (λ frames. Reason.Figure Figure.Frames (Bound.Exactly frames)) (frames_told s only))
     (λ y. frames_told (state_of y) only) (λ y. refl)
+
+-- the number that the machine finds not repeated in a report is the reason
+pub changed_told : (x : SeenMachine) (t : ℕ) (report : Report) (found : Option WrongFigure)
+    → found ≡ option_map_or (λ y. figure_changed (state_of y) report) (slice_get x.tenants t) None
+    → option_map (λ wrong. Reason.Report wrong) found ≡ report_changed (known_of x) t report
+changed_told x t report found is = ap (option_map (λ wrong. Reason.Report wrong)) is
+    ∙ told_of x t (λ wrong. Reason.Report wrong) (λ s. option_map (λ wrong. Reason.Report wrong) (figure_changed s report))
+    (λ y. figure_changed (state_of y) report) (λ y. refl)
 
 -- the first wrong byte of a read, by the tenant's state
 abbrev wrong_in : (place len : ℕ) → List ℕ → State → Option Reason

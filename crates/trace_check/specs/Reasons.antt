@@ -11,6 +11,7 @@ use Rattle.words_core.specs.declared.event.Command.{Command}
 use Rattle.words_core.specs.declared.event.Event.{Event}
 use Rattle.words_core.specs.declared.event.LineFault.{LineFault}
 use Rattle.words_core.specs.declared.reply.Reply.{Reply}
+use Rattle.words_core.specs.declared.report.Report.{Report}
 use Rattle.words_core.specs.Grammar.{reading_of}
 use Rattle.promise_core.specs.declared.promise.Promise.{Promise}
 use Rattle.promise_core.specs.State.{Known}
@@ -18,6 +19,7 @@ use Rattle.reply_judge.specs.Due.{refusal_due}
 use Rattle.reply_judge.specs.Emptied.{frames_due, frames_told}
 use Rattle.reply_judge.specs.Faults.{block_fault, object_fault}
 use Rattle.reply_judge.specs.Idle.{idle_slot}
+use Rattle.reply_judge.specs.Repeated.{figure_changed}
 use Rattle.reply_judge.specs.Vacancy.{left_for_block, left_for_object}
 use Rattle.reply_judge.specs.WrongBytes.{wrong_byte}
 use Rattle.reply_judge.specs.WrongOwners.{wrong_owner}
@@ -182,9 +184,14 @@ IsReasonOf Promise.Layout w event body reason = reason ≡ new_cache_wrong w eve
 IsReasonOf Promise.Still w event body reason = reason ≡ frames_still w event body
 IsReasonOf promise w event body reason = reason ≡ None
 
+-- the first number of the last report of tenant t that the report has to repeat, and does not
+abbrev pub report_changed : Known → (t : ℕ) → Report → Option Reason
+report_changed w t report = option_map_or (λ s. option_map (λ wrong. Reason.Report wrong) (figure_changed s report)) (slice_get w.states t) None
+
 -- the reason why a report or a table of owners breaks this promise
 abbrev pub table_wrong : Promise → Known → Event → Body → Option Reason
 table_wrong Promise.Owners w (Event.Admin AdminCommand.Pool) (Body.Owners table) = pool_wrong w table.items
+table_wrong Promise.Still w (Event.Tenant t Command.Report) (Body.Report report) = report_changed w t report
 table_wrong promise w event body = None
 
 -- The reason why the reply breaks a promise other than Form and Refusals. `answer` is None if the reply is not a reply of one line,

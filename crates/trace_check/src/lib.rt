@@ -10,6 +10,7 @@ mod answers;
 mod checking;
 mod events;
 mod figure;
+mod figures;
 mod finding;
 mod form;
 mod frames;

@@ -13,6 +13,7 @@ ghost use Rattle.trace_check.specs.declared.reason.Reason.TheVariants as Why;
 
 use crate::answer::read_answer;
 use crate::figure::Figure;
+use crate::figures::report_changed;
 use crate::frames::{gives_reason, still_reason};
 use crate::gathered::Gathered;
 use crate::kinds::{AnswerKind, kind_of_admin, kind_of_command};
@@ -25,7 +26,7 @@ use known_holdings::FrameBlock;
 use model_core::limits::{MAX_BYTES, MAX_ORDER};
 use model_core::owner::Owner;
 use promise_core::promise::Promise;
-use reply_judge::{BlockFault, Bound, KnownMachine, ObjectFault, Vacancy, WrongByte};
+use reply_judge::{BlockFault, Bound, KnownMachine, ObjectFault, Vacancy, WrongByte, WrongFigure};
 use words_core::{AdminCommand, Answer, Body, Command, Event, Refusal};
 
 /// Why a reply breaks a promise.
@@ -80,6 +81,8 @@ pub enum Reason {
         figure: Figure,
         bound: Bound,
     },
+    /// `Still`: this number of the report has to be within this bound.
+    Report(WrongFigure),
     /// `Owners`: the tenant holds this slot already.
     Held(u16),
     /// `Layout`: the tenant has a cache with this number already.
@@ -167,6 +170,9 @@ fn table_wrong(
     match (promise, event, table) {
         (Promise::Owners, Event::Admin(AdminCommand::Pool), Body::Owners(owners)) => {
             pool_wrong(machine, owners.as_slice())
+        }
+        (Promise::Still, Event::Tenant(tenant, Command::Report), Body::Report(report)) => {
+            report_changed(machine, *tenant, report)
         }
         _ => None,
     }

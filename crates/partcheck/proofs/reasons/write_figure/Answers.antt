@@ -1,23 +1,10 @@
+use Rattle.std.proofs.Common.{append_assoc}
 use Rattle.partcheck.specs.Reasons.{figure_text}
-use Rattle.partcheck.proofs.JoinedTexts.{only_text}
+use Rattle.partcheck.proofs.JoinedTexts.{first_text, last_text}
 use Rattle.partcheck.proofs.reasons.write_figure.Goals as goal
 
-pub returns-in-Exactly : goal.returns-in-Exactly
-returns-in-Exactly g c =
-    only_text (g.W.Write.contents c.args.out.now) (g.W.Write.contents c.write.new.self) c.write.result _ (figure_text c.args.figure c.args.bound) c.write.ensures.bytes
-    (simp (c.in-Exactly.is, c.name_of_figure-name.ensures))
-
-pub returns-in-AtLeast : goal.returns-in-AtLeast
-returns-in-AtLeast g c =
-    only_text (g.W.Write.contents c.args.out.now) (g.W.Write.contents c.write-in-AtLeast.new.self) c.write-in-AtLeast.result _ (figure_text c.args.figure c.args.bound) c.write-in-AtLeast.ensures.bytes
-    (simp (c.in-AtLeast.is, c.name_of_figure-name.ensures))
-
-pub returns-in-AtMost : goal.returns-in-AtMost
-returns-in-AtMost g c =
-    only_text (g.W.Write.contents c.args.out.now) (g.W.Write.contents c.write-in-AtMost.new.self) c.write-in-AtMost.result _ (figure_text c.args.figure c.args.bound) c.write-in-AtMost.ensures.bytes
-    (simp (c.in-AtMost.is, c.name_of_figure-name.ensures))
-
-pub returns-in-MultipleOf : goal.returns-in-MultipleOf
-returns-in-MultipleOf g c =
-    only_text (g.W.Write.contents c.args.out.now) (g.W.Write.contents c.write-in-MultipleOf.new.self) c.write-in-MultipleOf.result _ (figure_text c.args.figure c.args.bound) c.write-in-MultipleOf.ensures.bytes
-    (simp (c.in-MultipleOf.is, c.name_of_figure-name.ensures))
+pub returns : goal.returns
+returns g c =
+    last_text (g.W.Write.contents c.write_bound.new.out) c.write_bound.result _ (figure_text c.args.figure c.args.bound)
+    (first_text (g.W.Write.contents c.args.out.now) (g.W.Write.contents c.write.new.self) _ c.in_ok-write.ensures.bytes)
+    c.write_bound.ensures (simp (append_assoc, c.name_of_figure-name.ensures))
