@@ -130,6 +130,7 @@ bound_text (Bound.Exactly n) = codes " has to be " ++ decimal n
 bound_text (Bound.AtLeast n) = codes " has to be at least " ++ decimal n
 bound_text (Bound.AtMost n) = codes " has to be at most " ++ decimal n
 bound_text (Bound.MultipleOf n) = codes " has to be a multiple of " ++ decimal n
+bound_text Bound.Absent = codes " has to be none"
 
 -- the words for a number that has to be within a bound
 abbrev pub figure_text : Figure → Bound → List ℕ
@@ -137,8 +138,21 @@ figure_text figure bound = codes "the " ++ (name_of_figure figure ++ bound_text 
 
 -- the name of a number in a report
 abbrev pub name_in_report : ReportFigure → List ℕ
+name_in_report ReportFigure.OrderRows = codes "number of rows of orders"
+name_in_report ReportFigure.CacheRows = codes "number of rows of caches"
+name_in_report ReportFigure.Frames = codes "number of frames"
+name_in_report ReportFigure.Live = codes "number of live frames"
+name_in_report ReportFigure.Free = codes "number of free frames"
+name_in_report ReportFigure.FreeInRows = codes "number of frames in the free blocks"
+name_in_report ReportFigure.Top = codes "top"
+name_in_report ReportFigure.Split = codes "split"
 name_in_report (ReportFigure.FreeBlocks k) = codes "number of free blocks of order " ++ decimal k
+name_in_report (ReportFigure.TakenBlocks k) = codes "number of taken blocks of order " ++ decimal k
+name_in_report (ReportFigure.CacheOf i) = codes "number of the cache in cache row " ++ decimal i
+name_in_report (ReportFigure.FullSlabs number) = codes "number of full slabs of cache " ++ decimal number
+name_in_report (ReportFigure.PartialSlabs number) = codes "number of partial slabs of cache " ++ decimal number
 name_in_report (ReportFigure.EmptySlabs number) = codes "number of empty slabs of cache " ++ decimal number
+name_in_report (ReportFigure.LiveObjects number) = codes "number of live objects of cache " ++ decimal number
 
 -- the words for a wrong number in a report
 abbrev pub report_text : WrongFigure → List ℕ

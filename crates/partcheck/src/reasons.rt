@@ -290,6 +290,7 @@ fn write_bound<W: Write>(out: &mut W, bound: Bound) -> io::Result<()>
         Bound::AtLeast(number) => write!(out, " has to be at least {number}"),
         Bound::AtMost(number) => write!(out, " has to be at most {number}"),
         Bound::MultipleOf(number) => write!(out, " has to be a multiple of {number}"),
+        Bound::Absent => out.write_all(b" has to be none"),
     }
 }
 
@@ -324,8 +325,25 @@ fn write_name_in_report<W: Write>(out: &mut W, figure: ReportFigure) -> io::Resu
     ensures { OnOk result (Appends (W.contents out.old) (W.contents out.new) (name_in_report figure)) }
 {
     match figure {
+        ReportFigure::OrderRows => out.write_all(b"number of rows of orders"),
+        ReportFigure::CacheRows => out.write_all(b"number of rows of caches"),
+        ReportFigure::Frames => out.write_all(b"number of frames"),
+        ReportFigure::Live => out.write_all(b"number of live frames"),
+        ReportFigure::Free => out.write_all(b"number of free frames"),
+        ReportFigure::FreeInRows => out.write_all(b"number of frames in the free blocks"),
+        ReportFigure::Top => out.write_all(b"top"),
+        ReportFigure::Split => out.write_all(b"split"),
         ReportFigure::FreeBlocks(order) => write!(out, "number of free blocks of order {order}"),
+        ReportFigure::TakenBlocks(order) => write!(out, "number of taken blocks of order {order}"),
+        ReportFigure::CacheOf(row) => write!(out, "number of the cache in cache row {row}"),
+        ReportFigure::FullSlabs(cache) => write!(out, "number of full slabs of cache {cache}"),
+        ReportFigure::PartialSlabs(cache) => {
+            write!(out, "number of partial slabs of cache {cache}")
+        }
         ReportFigure::EmptySlabs(cache) => write!(out, "number of empty slabs of cache {cache}"),
+        ReportFigure::LiveObjects(cache) => {
+            write!(out, "number of live objects of cache {cache}")
+        }
     }
 }
 

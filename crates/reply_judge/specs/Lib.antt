@@ -11,3 +11,4 @@ pub mod Emptied
 pub mod WrongOwners
 pub mod Figures
 pub mod Repeated
+pub mod WrongReports

@@ -11,4 +11,6 @@ pub enum Bound {
     AtMost(u128),
     /// A multiple of this number.
     MultipleOf(u128),
+    /// No number: `none`.
+    Absent,
 }

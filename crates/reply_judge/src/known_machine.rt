@@ -16,6 +16,7 @@ ghost use Rattle.reply_judge.specs.Seen.{state_of};
 ghost use Rattle.reply_judge.specs.Vacancy.{left_for_block, left_for_object};
 ghost use Rattle.reply_judge.specs.WrongBytes.{wrong_byte};
 ghost use Rattle.reply_judge.specs.WrongOwners.{wrong_owner};
+ghost use Rattle.reply_judge.specs.WrongReports.{figure_wrong};
 ghost use Rattle.shadow_memory.specs.Left.{left_at};
 ghost use Rattle.reply_judge.specs.KnownMachine.{ShowsKnown};
 
@@ -218,6 +219,17 @@ impl KnownMachine {
         ensures { result ≡ option_map_or (λ y. frames_told (state_of y) only) (slice_get self.now.tenants tenant) None }
     {
         self.tenants.get(tenant as usize)?.frames_told(only)
+    }
+
+    /// Returns the first number of the tenant's report that is wrong. Returns `None` if none is, or if the tenant does not exist.
+    pub fn figure_wrong(&self, tenant: u32, report: &Report) -> Option<WrongFigure>
+        ensures { result
+            ≡ option_map_or (λ y. let s = state_of y in figure_wrong self.now.order s.may_have_empty s.has report.now)
+            (slice_get self.now.tenants tenant) None }
+    {
+        self.tenants
+            .get(tenant as usize)?
+            .figure_wrong(self.order(), report)
     }
 
     /// Returns the first number of the tenant's last report that the report has to repeat, and does not. Returns `None` if no

@@ -29,6 +29,7 @@ mod tenant;
 mod vacancy;
 mod verdict;
 mod wrong_bytes;
+mod wrong_reports;
 
 pub use bound::Bound;
 pub use faults::{BlockFault, ObjectFault};

@@ -38,7 +38,7 @@ fn has_slabs(cache: &HeldCache, row: &CacheRow) -> bool
 }
 
 /// Returns the number of full slabs and the number of partial slabs of the cache.
-fn count_slabs(cache: &HeldCache) -> (usize, usize)
+pub(crate) fn count_slabs(cache: &HeldCache) -> (usize, usize)
     ensures full { result.0 ≡ count_slabs (is_slab_full cache.now) cache.now }
     ensures partial { result.1 ≡ count_slabs (λ p. not (is_slab_full cache.now p)) cache.now }
 {

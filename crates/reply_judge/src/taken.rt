@@ -16,11 +16,15 @@ pub(crate) fn are_taken(held: &Held, rows: &[CacheRow], k: u8, count: u32) -> bo
     requires { length rows.now ≤ CACHES }
     ensures { result ≡ (count == known_count held.now rows.now k) }
 {
-    let pages = count_pages(held.pages(), k);
-    match u64::from(count).checked_sub(count_slabs(held.caches(), rows, k)) {
-        Some(rest) => rest == pages as u64,
-        None => false,
-    }
+    u128::from(count) == known_count(held, rows, k)
+}
+
+/// Returns how many blocks of `2^k` frames are taken, according to the page blocks and these cache rows.
+pub(crate) fn known_count(held: &Held, rows: &[CacheRow], k: u8) -> u128
+    requires { length rows.now ≤ CACHES }
+    ensures { result ≡ known_count held.now rows.now k }
+{
+    count_pages(held.pages(), k) as u128 + u128::from(count_slabs(held.caches(), rows, k))
 }
 
 /// Returns the number of page blocks of `2^k` frames.

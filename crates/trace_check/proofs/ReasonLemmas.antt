@@ -19,11 +19,12 @@ use Rattle.reply_judge.specs.Repeated.{figure_changed}
 use Rattle.reply_judge.specs.Seen.{Seen, state_of}
 use Rattle.reply_judge.specs.declared.figures.WrongFigure.{WrongFigure}
 use Rattle.reply_judge.specs.WrongBytes.{wrong_byte}
+use Rattle.reply_judge.specs.WrongReports.{figure_wrong}
 use Rattle.reply_judge.specs.declared.wrong_bytes.WrongByte.{WrongByte}
 use Rattle.shadow_memory.specs.Left.{left_at}
 use Rattle.trace_check.specs.Forms.{◌>>=◌}
 use Rattle.trace_check.specs.Gathered.{whole_of}
-use Rattle.trace_check.specs.Reasons.{IsReason, IsReasonIn, IsReasonOf, answer_read, frames_wrong, read_wrong, report_changed, slot_idle, still_wrong, table_read, table_wrong}
+use Rattle.trace_check.specs.Reasons.{IsReason, IsReasonIn, IsReasonOf, answer_read, frames_wrong, read_wrong, report_changed, report_wrong, slot_idle, still_wrong, table_read, table_wrong}
 use Rattle.trace_check.specs.Replies.{answer_of}
 use Rattle.trace_check.specs.Tables.{table_of}
 use Rattle.trace_check.specs.declared.figure.Figure.{Figure}
@@ -110,6 +111,14 @@ frames_still_told x t only found is = ap (option_map (λ frames. Reason.Figure F
     ∙ told_of x t (λ frames. Reason.Figure Figure.Frames (Bound.Exactly frames))
     (λ s. option_map (λ frames. Reason.Figure Figure.Frames (Bound.Exactly frames)) (frames_told s only))
     (λ y. frames_told (state_of y) only) (λ y. refl)
+
+-- the wrong number that the machine finds in a report is the reason
+pub wrong_figure_told : (x : SeenMachine) (t : ℕ) (report : Report) (found : Option WrongFigure)
+    → found ≡ option_map_or (λ y. figure_wrong x.order (state_of y).may_have_empty (state_of y).has report) (slice_get x.tenants t) None
+    → option_map (λ wrong. Reason.Report wrong) found ≡ report_wrong (known_of x) t report
+wrong_figure_told x t report found is = ap (option_map (λ wrong. Reason.Report wrong)) is
+    ∙ told_of x t (λ wrong. Reason.Report wrong) (λ s. option_map (λ wrong. Reason.Report wrong) (figure_wrong x.order s.may_have_empty s.has report))
+    (λ y. figure_wrong x.order (state_of y).may_have_empty (state_of y).has report) (λ y. refl)
 
 -- the number that the machine finds not repeated in a report is the reason
 pub changed_told : (x : SeenMachine) (t : ℕ) (report : Report) (found : Option WrongFigure)

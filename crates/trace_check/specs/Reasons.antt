@@ -23,6 +23,7 @@ use Rattle.reply_judge.specs.Repeated.{figure_changed}
 use Rattle.reply_judge.specs.Vacancy.{left_for_block, left_for_object}
 use Rattle.reply_judge.specs.WrongBytes.{wrong_byte}
 use Rattle.reply_judge.specs.WrongOwners.{wrong_owner}
+use Rattle.reply_judge.specs.WrongReports.{figure_wrong}
 use Rattle.reply_judge.specs.declared.vacancy.Vacancy.{Vacancy}
 use Rattle.trace_check.specs.Forms.{◌>>=◌}
 use Rattle.trace_check.specs.Gathered.{whole_of}
@@ -184,6 +185,10 @@ IsReasonOf Promise.Layout w event body reason = reason ≡ new_cache_wrong w eve
 IsReasonOf Promise.Still w event body reason = reason ≡ frames_still w event body
 IsReasonOf promise w event body reason = reason ≡ None
 
+-- the first number of the report of tenant t that is wrong
+abbrev pub report_wrong : Known → (t : ℕ) → Report → Option Reason
+report_wrong w t report = option_map_or (λ s. option_map (λ wrong. Reason.Report wrong) (figure_wrong w.order s.may_have_empty s.has report)) (slice_get w.states t) None
+
 -- the first number of the last report of tenant t that the report has to repeat, and does not
 abbrev pub report_changed : Known → (t : ℕ) → Report → Option Reason
 report_changed w t report = option_map_or (λ s. option_map (λ wrong. Reason.Report wrong) (figure_changed s report)) (slice_get w.states t) None
@@ -191,6 +196,7 @@ report_changed w t report = option_map_or (λ s. option_map (λ wrong. Reason.Re
 -- the reason why a report or a table of owners breaks this promise
 abbrev pub table_wrong : Promise → Known → Event → Body → Option Reason
 table_wrong Promise.Owners w (Event.Admin AdminCommand.Pool) (Body.Owners table) = pool_wrong w table.items
+table_wrong Promise.Report w (Event.Tenant t Command.Report) (Body.Report report) = report_wrong w t report
 table_wrong Promise.Still w (Event.Tenant t Command.Report) (Body.Report report) = report_changed w t report
 table_wrong promise w event body = None
 

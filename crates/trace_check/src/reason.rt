@@ -13,7 +13,7 @@ ghost use Rattle.trace_check.specs.declared.reason.Reason.TheVariants as Why;
 
 use crate::answer::read_answer;
 use crate::figure::Figure;
-use crate::figures::report_changed;
+use crate::figures::{report_changed, report_wrong};
 use crate::frames::{gives_reason, still_reason};
 use crate::gathered::Gathered;
 use crate::kinds::{AnswerKind, kind_of_admin, kind_of_command};
@@ -81,7 +81,7 @@ pub enum Reason {
         figure: Figure,
         bound: Bound,
     },
-    /// `Still`: this number of the report has to be within this bound.
+    /// `Report` or `Still`: this number of the report has to be within this bound.
     Report(WrongFigure),
     /// `Owners`: the tenant holds this slot already.
     Held(u16),
@@ -170,6 +170,9 @@ fn table_wrong(
     match (promise, event, table) {
         (Promise::Owners, Event::Admin(AdminCommand::Pool), Body::Owners(owners)) => {
             pool_wrong(machine, owners.as_slice())
+        }
+        (Promise::Report, Event::Tenant(tenant, Command::Report), Body::Report(report)) => {
+            report_wrong(machine, *tenant, report)
         }
         (Promise::Still, Event::Tenant(tenant, Command::Report), Body::Report(report)) => {
             report_changed(machine, *tenant, report)
