@@ -50,6 +50,7 @@ struct caller {
     partmem_owner owner;
     partmem_block block;
     partmem_object object;
+    partmem_sizes sizes;
     partmem_figures figures;
     uint32_t word;
     size_t written;
@@ -285,6 +286,18 @@ static void give(struct caller *its)
     }
 }
 
+/* Gives back or frees what begins at a place, most often that of a piece. A ninth of the caches have another size in the table. */
+static void release_place(struct caller *its)
+{
+    struct piece *piece = some_piece(its, rarely(3) ? OF_NO_CACHE : ANY_CACHE);
+    const uint32_t place = piece && !rarely(8) ? piece->place : some_place(its);
+    its->object.bytes = 0;
+    (void)CALL(its, CALLED, "find_object", partmem_find_object(its->tenant, place, &its->object));
+    for (unsigned i = 0; i < LEN(its->sizes.bytes); i++) its->sizes.bytes[i] = (uint16_t)(rarely(9) ? 0 : its->object.bytes);
+    partmem_status status = CALL(its, CALLED, "release", partmem_release(its->tenant, place, &its->sizes, &its->object));
+    if (status == PARTMEM_DONE && piece && piece->place == place) drop(its, piece);
+}
+
 static void read_bytes(struct caller *its)
 {
     const uint32_t len = rarely(10) ? wrong_number() : 1 + any(PARTMEM_MAX_BYTES);
@@ -419,7 +432,7 @@ static const struct turn {
 } turns[] = {
     {alloc, 16, 4},      {release, 4, 16},    {take, 30, 8},       {give, 8, 30}, {read_bytes, 5, 5},
     {write_bytes, 5, 5}, {make_cache, 2, 2},  {destroy_cache, 1, 2}, {reap, 1, 1},  {report, 1, 1},
-    {lend, 5, 5},        {look_up, 6, 6},     {heap_malloc, 12, 4},  {heap_free, 4, 12},
+    {lend, 5, 5},        {look_up, 6, 6},     {heap_malloc, 12, 4},  {heap_free, 4, 12}, {release_place, 3, 9},
 };
 
 static void call_of_tenant(struct caller *its)
