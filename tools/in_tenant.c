@@ -31,8 +31,9 @@ struct record {
     char name[16];
     uint64_t requests, frees, refused;
     uint32_t frames, most_frames; /* of the machine, and in use at the peak */
-    uint32_t slots, free_slots;   /* how many the tenant has; at the end, how many could be taken back */
-    uint32_t has_ended, unused;
+    uint32_t slots;               /* how many the tenant has */
+    /* At the end, after a reap: whether the rest was counted, the slots that could be taken back, and the frames in use. */
+    uint32_t is_counted, free_slots, last_frames;
 };
 _Static_assert(sizeof(struct record) == 64, "a record lies in one page of its file");
 
@@ -96,10 +97,16 @@ static struct record *add_record(void)
     return record;
 }
 
-static void count_frames(void)
+static uint32_t frames_in_use(void)
 {
     partmem_figures figures;
-    if (partmem_report(tenant, &figures) == PARTMEM_DONE && figures.live > used->most_frames) used->most_frames = figures.live;
+    return partmem_report(tenant, &figures) == PARTMEM_DONE ? figures.live : 0;
+}
+
+static void count_frames(void)
+{
+    const uint32_t frames = frames_in_use();
+    if (frames > used->most_frames) used->most_frames = frames;
 }
 
 static void enter(void)
@@ -222,9 +229,10 @@ __attribute__((destructor)) static void end(void)
     enter();
     count_frames();
     if (counts_slots && partmem_reap(tenant, &frames) == PARTMEM_DONE) {
+        used->last_frames = frames_in_use();
         used->free_slots = 0;
         for (uint32_t slot = 0; slot < superblocks; slot++) used->free_slots += (uint32_t)is_free(slot);
+        used->is_counted = 1;
     }
-    used->has_ended = 1;
     pthread_mutex_unlock(&lock);
 }
