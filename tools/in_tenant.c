@@ -113,7 +113,9 @@ static void enter(void)
 {
     pthread_mutex_lock(&lock);
     if (!is_booted) boot();
-    if (!used) used = add_record();
+    if (used) return;
+    used = add_record();
+    count_frames();
 }
 
 static void *leave(void *at)
