@@ -23,7 +23,7 @@ enum {
     ORDER = 8,
     SUPERBLOCKS = 1024,
     PATH_BYTES = 4096,
-    REPORTED = 64 /* a report counts the frames in use after so many requests */
+    REPORTED = 64 /* the frames in use are counted after each of the first 64 requests, and then after each 64th */
 };
 
 /* What a process used. */
@@ -122,7 +122,7 @@ static void *leave(void *at)
 {
     used->requests++;
     used->refused += !at;
-    if (used->requests % REPORTED == 0) count_frames();
+    if (used->requests < REPORTED || used->requests % REPORTED == 0) count_frames();
     pthread_mutex_unlock(&lock);
     if (!at) errno = ENOMEM;
     return at;
